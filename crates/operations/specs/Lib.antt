@@ -1,2 +1,6 @@
 pub mod Operations
 pub mod PairRules
+pub mod Log
+pub mod Laws
+pub mod Theorems
+pub mod Samples

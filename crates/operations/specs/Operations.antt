@@ -1,6 +1,6 @@
 -- Document 01, "Operations and their replies": what each operation does to an object's rows, and what it replies.
--- Rows are of any number ("without limits"). Arguments are as stored: only `stored` reduces a key.
-use Prim.Native.Nat.{ℕ, _-_, _%_, _<_}
+-- Rows are of any number ("without limits"). Arguments are as stored: only `stored` reduces a key, by the reduction that it is given.
+use Prim.Native.Nat.{ℕ, _-_, _%_, _^_, _≤_, _<_}
 use mathlib.Core.Path.{_≡_}
 use mathlib.Core.Bool.{Bool, true, false, not, cond}
 use mathlib.Core.Option.{Option, none, some}
@@ -8,7 +8,7 @@ use mathlib.Core.List.{List, [], _∷_, _++_, map}
 use lib.Dec.{ltb, eqb}
 use lib.ListN.{length, getD, take}
 
--- The kinds of object.
+-- The kinds of object, 1 to 3. Kind 0, none, has no rows and no operations.
 pub data Kind : Type 0 where
   Stack Set Table : Kind
 
@@ -80,7 +80,7 @@ numbered reduce k v =
 abbrev pub stored : (ℕ → ℕ) → ℕ → ℕ → ℕ → Option Operation
 stored reduce number k v = getD (none ∷ map some (numbered reduce k v)) number none
 
--- The number, key or item, and value that are stored for an operation; an argument that it does not use is 0.
+-- What is stored for an operation: its number, its key or item, and its value. An argument that it does not use is 0.
 abbrev pub numberOf : Operation → ℕ
 numberOf (onStack (push x)) = 1
 numberOf (onStack pop) = 2
@@ -116,7 +116,7 @@ valueOf (onTable (lookup k)) = 0
 valueOf (onTable size) = 0
 valueOf (onTable (modify k v)) = v
 
--- ---- Rows with ascending keys
+-- ---- Rows of sets and tables, whose keys ascend
 
 -- One of three, as j is less than, equal to or greater than k.
 unfoldable pub byOrder : {A : Type 0} → ℕ → ℕ → A → A → A → A
@@ -134,15 +134,17 @@ isSome (some v) = true
 abbrev pub present : ℕ → List Row → Bool
 present k rs = isSome (found k rs)
 
--- The row k v put in its place; no change where the key is there already.
+-- The row k v put in its place; no change where the key is there.
 abbrev pub inserted : ℕ → ℕ → List Row → List Row
 inserted k v [] = row k v ∷ []
 inserted k v (r ∷ rs) = byOrder (r .key) k (r ∷ inserted k v rs) (r ∷ rs) (row k v ∷ r ∷ rs)
 
+-- No change where the key is not there.
 abbrev pub deleted : ℕ → List Row → List Row
 deleted k [] = []
 deleted k (r ∷ rs) = byOrder (r .key) k (r ∷ deleted k rs) rs (r ∷ rs)
 
+-- The value replaced; no change where the key is not there.
 abbrev pub modified : ℕ → ℕ → List Row → List Row
 modified k v [] = []
 modified k v (r ∷ rs) = byOrder (r .key) k (r ∷ modified k v rs) (row k v ∷ rs) (r ∷ rs)
@@ -198,7 +200,7 @@ reply (onStack o) rs = stackReply o rs
 reply (onSet o) rs = setReply o rs
 reply (onTable o) rs = tableReply o rs
 
--- ---- Well-formed rows and fitting operations
+-- ---- Well-formed rows, and operations that fit a kind
 
 abbrev pub All : {A : Type 0} → (A → Type 0) → List A → Type 0
 All P [] = Unit {0}
@@ -208,7 +210,7 @@ All P (x ∷ xs) = P x × All P xs
 abbrev pub NoValue : Row → Type 0
 NoValue r = r .value ≡ 0
 
--- A key that the reduction leaves as it is.
+-- The reduction leaves the key as it is.
 abbrev pub Reduced : (ℕ → ℕ) → ℕ → Type 0
 Reduced reduce k = reduce k ≡ k
 
@@ -220,14 +222,22 @@ abbrev pub Ascending : List Row → Type 0
 Ascending [] = Unit {0}
 Ascending (r ∷ rs) = All (λ (q : Row). r .key < q .key) rs × Ascending rs
 
--- Rows as a sound book has them for an object of the kind.
+-- The form of a kind's rows, whatever their number.
 abbrev pub WellFormed : (ℕ → ℕ) → Kind → List Row → Type 0
 WellFormed reduce Stack rs = All NoValue rs
 WellFormed reduce Set rs = All NoValue rs × All (KeyReduced reduce) rs × Ascending rs
 WellFormed reduce Table rs = All (KeyReduced reduce) rs × Ascending rs
 
--- The operation is one of the kind, and its key is reduced.
+-- Rows that a book can hold: at most 64, of words of 32 bits.
+abbrev pub Holdable : List Row → Type 0
+Holdable rs = (length rs ≤ 64) × All (λ (r : Row). (r .key < 2 ^ 32) × (r .value < 2 ^ 32)) rs
+
+-- Keys of sets and tables are reduced.
+abbrev pub StoredKey : (ℕ → ℕ) → Operation → Type 0
+StoredKey reduce (onStack o) = Unit {0}
+StoredKey reduce (onSet o) = Reduced reduce (keyOf (onSet o))
+StoredKey reduce (onTable o) = Reduced reduce (keyOf (onTable o))
+
+-- The operation is one of the kind, and its key is as stored.
 abbrev pub Fits : (ℕ → ℕ) → Kind → Operation → Type 0
-Fits reduce Stack o = kindOf o ≡ Stack
-Fits reduce Set o = (kindOf o ≡ Set) × Reduced reduce (keyOf o)
-Fits reduce Table o = (kindOf o ≡ Table) × Reduced reduce (keyOf o)
+Fits reduce kind o = (kindOf o ≡ kind) × StoredKey reduce o

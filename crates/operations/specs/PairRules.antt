@@ -10,7 +10,7 @@ use Rattle.operations.specs.Operations.{Kind, Stack, Set, Table, Operati
 pub data Rule : Type 0 where
   always never apart : Rule
 
--- A rule's test of the requested and the logged operation, each handed over whole.
+-- Whether a rule says yes to a requested and a logged operation; keys are compared as stored.
 abbrev pub allows : Rule → Operation → Operation → Bool
 allows always requested logged = true
 allows never requested logged = false
@@ -20,61 +20,63 @@ allows apart requested logged = not (eqb (keyOf requested) (keyOf logged))
 abbrev pub Rules : Type 0
 Rules = List (List Rule)
 
--- Recoverable: the reply is the same whether or not the logged operation ran.
+-- ---- Recoverable: the requested operation's reply is the same from every state, whether or not the logged one ran
 
--- push, pop, top
+-- push, pop, top (figure 1b)
 abbrev pub stackRecoverable : Rules
 stackRecoverable =
-    (always ∷ always ∷ always ∷ [])
-    ∷ (never ∷ never ∷ always ∷ [])
-    ∷ (never ∷ never ∷ always ∷ [])
+    (always ∷ always ∷ always ∷ [])  -- push against
+    ∷ (never ∷ never ∷ always ∷ [])  -- pop against
+    ∷ (never ∷ never ∷ always ∷ [])  -- top against
     ∷ []
 
--- insert, delete, member
+-- insert, delete, member (figure 2b)
 abbrev pub setRecoverable : Rules
 setRecoverable =
-    (always ∷ always ∷ always ∷ [])
-    ∷ (apart ∷ apart ∷ always ∷ [])
-    ∷ (apart ∷ apart ∷ always ∷ [])
+    (always ∷ always ∷ always ∷ [])  -- insert against
+    ∷ (apart ∷ apart ∷ always ∷ [])  -- delete against
+    ∷ (apart ∷ apart ∷ always ∷ [])  -- member against
     ∷ []
 
--- insert, delete, lookup, size, modify
+-- insert, delete, lookup, size, modify (figure 3b)
 abbrev pub tableRecoverable : Rules
 tableRecoverable =
-    (apart ∷ apart ∷ always ∷ always ∷ always ∷ [])
-    ∷ (apart ∷ apart ∷ always ∷ always ∷ always ∷ [])
-    ∷ (apart ∷ apart ∷ always ∷ always ∷ apart ∷ [])
-    ∷ (never ∷ never ∷ always ∷ always ∷ always ∷ [])
-    ∷ (apart ∷ apart ∷ always ∷ always ∷ always ∷ [])
+    (apart ∷ apart ∷ always ∷ always ∷ always ∷ [])  -- insert against
+    ∷ (apart ∷ apart ∷ always ∷ always ∷ always ∷ [])  -- delete against
+    ∷ (apart ∷ apart ∷ always ∷ always ∷ apart ∷ [])  -- lookup against
+    ∷ (never ∷ never ∷ always ∷ always ∷ always ∷ [])  -- size against
+    ∷ (apart ∷ apart ∷ always ∷ always ∷ always ∷ [])  -- modify against
     ∷ []
 
--- Commuting: the same replies and the same state either way round.
+-- ---- Commuting: the same replies and the same state either way round, from every state
 
--- push, pop, top
+-- push, pop, top (figure 1a, but that two pushes do not commute)
 abbrev pub stackCommuting : Rules
 stackCommuting =
-    (never ∷ never ∷ never ∷ [])
-    ∷ (never ∷ never ∷ never ∷ [])
-    ∷ (never ∷ never ∷ always ∷ [])
+    (never ∷ never ∷ never ∷ [])  -- push with
+    ∷ (never ∷ never ∷ never ∷ [])  -- pop with
+    ∷ (never ∷ never ∷ always ∷ [])  -- top with
     ∷ []
 
--- insert, delete, member
+-- insert, delete, member (figure 2a)
 abbrev pub setCommuting : Rules
 setCommuting =
-    (always ∷ apart ∷ apart ∷ [])
-    ∷ (apart ∷ apart ∷ apart ∷ [])
-    ∷ (apart ∷ apart ∷ always ∷ [])
+    (always ∷ apart ∷ apart ∷ [])  -- insert with
+    ∷ (apart ∷ apart ∷ apart ∷ [])  -- delete with
+    ∷ (apart ∷ apart ∷ always ∷ [])  -- member with
     ∷ []
 
 -- insert, delete, lookup, size, modify (figure 3a)
 abbrev pub tableCommuting : Rules
 tableCommuting =
-    (apart ∷ apart ∷ apart ∷ never ∷ apart ∷ [])
-    ∷ (apart ∷ apart ∷ apart ∷ never ∷ apart ∷ [])
-    ∷ (apart ∷ apart ∷ always ∷ always ∷ apart ∷ [])
-    ∷ (never ∷ never ∷ always ∷ always ∷ always ∷ [])
-    ∷ (apart ∷ apart ∷ apart ∷ always ∷ apart ∷ [])
+    (apart ∷ apart ∷ apart ∷ never ∷ apart ∷ [])  -- insert with
+    ∷ (apart ∷ apart ∷ apart ∷ never ∷ apart ∷ [])  -- delete with
+    ∷ (apart ∷ apart ∷ always ∷ always ∷ apart ∷ [])  -- lookup with
+    ∷ (never ∷ never ∷ always ∷ always ∷ always ∷ [])  -- size with
+    ∷ (apart ∷ apart ∷ apart ∷ always ∷ apart ∷ [])  -- modify with
     ∷ []
+
+-- ---- The two relations
 
 abbrev pub recoverableRules : Kind → Rules
 recoverableRules Stack = stackRecoverable
@@ -92,17 +94,15 @@ firstNumber Stack = 1
 firstNumber Set = 4
 firstNumber Table = 7
 
--- The entry of a table for two operations of the kind, by their numbers.
+-- The entry at a row and a column, counted from 0.
 abbrev pub ruleAt : Rules → ℕ → ℕ → Rule
 ruleAt rules requested logged = getD (getD rules requested []) logged never
 
+-- What the tables say of two operations of one kind; of two kinds nothing is meant.
 abbrev pub ruleFor : (Kind → Rules) → Operation → Operation → Rule
 ruleFor rules requested logged =
-    ruleAt (rules (kindOf requested))
-    (numberOf requested - firstNumber (kindOf requested))
-    (numberOf logged - firstNumber (kindOf requested))
+    ruleAt (rules (kindOf requested)) (numberOf requested - firstNumber (kindOf requested)) (numberOf logged - firstNumber (kindOf requested))
 
--- Both operations are of one kind wherever these are asked.
 abbrev pub recoverable : Operation → Operation → Bool
 recoverable requested logged = allows (ruleFor recoverableRules requested logged) requested logged
 

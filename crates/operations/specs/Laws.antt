@@ -1,0 +1,9 @@
+pub mod Cases
+pub mod Recoverability
+pub mod Rows
+pub mod Stacks
+pub mod Sets
+pub mod Tables
+pub mod Grid
+pub mod Objects
+pub mod Witnesses

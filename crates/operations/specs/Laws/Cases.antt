@@ -1,0 +1,30 @@
+-- Case analysis on a test and on a key, and laws of `All`.
+use Prim.Native.Nat.{ℕ}
+use mathlib.Core.Path.{_≡_, refl, sym, subst}
+use mathlib.Core.Bool.{Bool, true, false}
+use mathlib.Core.List.{List, [], _∷_, _++_}
+use borrow.Author.Tests.{eqb-true, eqb-false}
+use lib.Dec.{eqb}
+use Rattle.operations.specs.Operations.{All}
+
+pub split : {A : Type 0} (b : Bool) → (b ≡ true → A) → (b ≡ false → A) → A
+split true f g = f refl
+split false f g = g refl
+
+-- a key is k, or apart from it
+pub by-key : (P : ℕ → Type 0) (j k : ℕ) → P k → ((j ≡ k → ⊥) → P j) → P j
+by-key P j k own other =
+    split (eqb j k) (λ (e : eqb j k ≡ true). subst P (sym (eqb-true j k e)) own) (λ (e : eqb j k ≡ false). other (eqb-false j k e))
+
+module _ {A : Type 0} where
+  pub all-map : {P Q : A → Type 0} → ((x : A) → P x → Q x) → (l : List A) → All P l → All Q l
+  all-map f [] p = tt
+  all-map f (x ∷ l) p = (f x (p .0), all-map f l (p .1))
+
+  pub all-map₂ : {P Q R : A → Type 0} → ((x : A) → P x → Q x → R x) → (l : List A) → All P l → All Q l → All R l
+  all-map₂ f [] p q = tt
+  all-map₂ f (x ∷ l) p q = (f x (p .0) (q .0), all-map₂ f l (p .1) (q .1))
+
+  pub all-append : (P : A → Type 0) (l m : List A) → All P l → All P m → All P (l ++ m)
+  all-append P [] m p q = q
+  all-append P (x ∷ l) m p q = (p .0, all-append P l m (p .1) q)

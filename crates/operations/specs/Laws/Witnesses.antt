@@ -1,0 +1,149 @@
+-- Where the recoverable tables say no: a state of at most one row that shows it.
+use Prim.Native.Nat.{ℕ, _-_, _<_, _^_}
+use mathlib.Core.Path.{_≡_, refl, ap}
+use mathlib.Core.Bool.{Bool, true, false, not, true≢false}
+use mathlib.Core.Option.{none, some}
+use mathlib.Core.List.{List, [], _∷_}
+use native.Mathlib.Omega.{arith}
+use borrow.Author.Tests.{eqb-true, not-false}
+use lib.Dec.{eqb}
+use lib.ListN.{length}
+use Rattle.operations.specs.Operations.{Kind, Stack, Set, Table, Row, row, Reply, flag, valued, replied, topItem, StackOperation, push, pop, top, SetOperation, setInsert, setDelete, member, TableOperation, tableInsert, tableDelete, lookup, size, modify, Operation, onStack, onSet, onTable, kindOf, numberOf, keyOf, found, present, stackNext, stackReply, setNext, setReply, tableNext, tableReply, next, reply, WellFormed, Holdable, StoredKey, Fits}
+use Rattle.operations.specs.PairRules.{allows, ruleAt, stackRecoverable, setRecoverable, tableRecoverable, recoverable}
+use Rattle.operations.specs.Laws.Rows.{byOrder-equal}
+use Rattle.operations.specs.Laws.Objects.{byKind, byKinds}
+
+-- The state that shows a no against the logged operation: empty, or one row that it takes away or changes.
+abbrev pub witness : Operation → List Row
+witness (onStack (push x)) = []
+witness (onStack pop) = row 0 0 ∷ []
+witness (onStack top) = []
+witness (onSet (setInsert k)) = []
+witness (onSet (setDelete k)) = row k 0 ∷ []
+witness (onSet (member k)) = []
+witness (onTable (tableInsert k v)) = []
+witness (onTable (tableDelete k)) = row k 0 ∷ []
+witness (onTable (lookup k)) = []
+witness (onTable size) = []
+witness (onTable (modify k v)) = row k (1 - v) ∷ []
+
+pub witness-holdable : (p : Operation) → keyOf p < 2 ^ 32 → Holdable (witness p)
+witness-holdable (onStack (push x)) h = omega arith
+witness-holdable (onStack pop) h = omega arith
+witness-holdable (onStack top) h = omega arith
+witness-holdable (onSet (setInsert k)) h = omega arith
+witness-holdable (onSet (setDelete k)) h = omega arith
+witness-holdable (onSet (member k)) h = omega arith
+witness-holdable (onTable (tableInsert k v)) h = omega arith
+witness-holdable (onTable (tableDelete k)) h = omega arith
+witness-holdable (onTable (lookup k)) h = omega arith
+witness-holdable (onTable size) h = omega arith
+witness-holdable (onTable (modify k v)) h = omega arith
+
+module _ (reduce : ℕ → ℕ) where
+  stack-witness : (p : StackOperation) → WellFormed reduce Stack (witness (onStack p))
+  stack-witness (push x) = tt
+  stack-witness pop = (refl, tt)
+  stack-witness top = tt
+
+  set-witness : (p : SetOperation) → StoredKey reduce (onSet p) → WellFormed reduce Set (witness (onSet p))
+  set-witness (setInsert k) red = (tt, tt, tt)
+  set-witness (setDelete k) red = ((refl, tt), (red, tt), (tt, tt))
+  set-witness (member k) red = (tt, tt, tt)
+
+  table-witness : (p : TableOperation) → StoredKey reduce (onTable p) → WellFormed reduce Table (witness (onTable p))
+  table-witness (tableInsert k v) red = (tt, tt)
+  table-witness (tableDelete k) red = ((red, tt), (tt, tt))
+  table-witness (lookup k) red = (tt, tt)
+  table-witness size red = (tt, tt)
+  table-witness (modify k v) red = ((red, tt), (tt, tt))
+
+  pub witness-valid : (kind : Kind) (p : Operation) → Fits reduce kind p → WellFormed reduce kind (witness p)
+  witness-valid kind p f =
+      byKind (λ (k : Kind) (q : Operation). StoredKey reduce q → WellFormed reduce k (witness q)) (λ q red. stack-witness q) set-witness table-witness kind p
+      (f .0) (f .1)
+
+-- ---- Each no
+
+abbrev Differ : Reply → Reply → Type 0
+Differ r s = r ≡ s → ⊥
+
+codes-differ : (r s : Reply) → (r .code ≡ s .code → ⊥) → Differ r s
+codes-differ r s n e = n (ap (λ (q : Reply). q .code) e)
+
+values-differ : (r s : Reply) → (r .value ≡ s .value → ⊥) → Differ r s
+values-differ r s n e = n (ap (λ (q : Reply). q .value) e)
+
+flags-differ : (b : Bool) → Differ (flag (not b)) (flag b)
+flags-differ true = codes-differ (flag false) (flag true) (omega arith)
+flags-differ false = codes-differ (flag true) (flag false) (omega arith)
+
+-- the keys are equal where "apart" says no
+equal : (j k : ℕ) → not (eqb j k) ≡ false → j ≡ k
+equal j k e = eqb-true j k (not-false (eqb j k) e)
+
+-- where the rules of pop and top say no, the witness changes whether there is an item
+stack-differs : (o : Operation) (p : StackOperation) → allows (ruleAt stackRecoverable 1 (numberOf (onStack p) - 1)) o (onStack p) ≡ false
+    → Differ (valued (topItem (stackNext p (witness (onStack p))))) (valued (topItem (witness (onStack p))))
+stack-differs o (push x) e = codes-differ (valued (some x)) (valued none) (omega arith)
+stack-differs o pop e = codes-differ (valued none) (valued (some 0)) (omega arith)
+stack-differs o top e = absurd (true≢false e)
+
+stack-no : (o p : StackOperation) → recoverable (onStack o) (onStack p) ≡ false
+    → Differ (stackReply o (stackNext p (witness (onStack p)))) (stackReply o (witness (onStack p)))
+stack-no (push x) (push y) e = absurd (true≢false e)
+stack-no (push x) pop e = absurd (true≢false e)
+stack-no (push x) top e = absurd (true≢false e)
+stack-no pop p e = stack-differs (onStack pop) p e
+stack-no top p e = stack-differs (onStack top) p e
+
+-- where the rules of insert, delete and modify say no, the witness changes whether the key is present
+present-turns : (o : Operation) (p : TableOperation) → allows (ruleAt tableRecoverable 1 (numberOf (onTable p) - 7)) o (onTable p) ≡ false
+    → present (keyOf o) (tableNext p (witness (onTable p))) ≡ not (present (keyOf o) (witness (onTable p)))
+present-turns o (tableInsert k v) e = rw (equal (keyOf o) k e) (simp byOrder-equal)
+present-turns o (tableDelete k) e = rw (equal (keyOf o) k e) (simp byOrder-equal)
+present-turns o (lookup k) e = absurd (true≢false e)
+present-turns o size e = absurd (true≢false e)
+present-turns o (modify k v) e = absurd (true≢false e)
+
+lookup-differs : (o : Operation) (p : TableOperation) → allows (ruleAt tableRecoverable 2 (numberOf (onTable p) - 7)) o (onTable p) ≡ false
+    → Differ (valued (found (keyOf o) (tableNext p (witness (onTable p))))) (valued (found (keyOf o) (witness (onTable p))))
+lookup-differs o (tableInsert k v) e = rw (equal (keyOf o) k e) (simp byOrder-equal (codes-differ (valued (some v)) (valued none) (omega arith)))
+lookup-differs o (tableDelete k) e = rw (equal (keyOf o) k e) (simp byOrder-equal (codes-differ (valued none) (valued (some 0)) (omega arith)))
+lookup-differs o (lookup k) e = absurd (true≢false e)
+lookup-differs o size e = absurd (true≢false e)
+lookup-differs o (modify k v) e = rw (equal (keyOf o) k e) (simp byOrder-equal (values-differ (valued (some v)) (valued (some (1 - v))) (omega arith)))
+
+size-differs : (o : Operation) (p : TableOperation) → allows (ruleAt tableRecoverable 3 (numberOf (onTable p) - 7)) o (onTable p) ≡ false
+    → Differ (replied 1 (length (tableNext p (witness (onTable p))))) (replied 1 (length (witness (onTable p))))
+size-differs o (tableInsert k v) e = values-differ (replied 1 1) (replied 1 0) (omega arith)
+size-differs o (tableDelete k) e = simp byOrder-equal (values-differ (replied 1 0) (replied 1 1) (omega arith))
+size-differs o (lookup k) e = absurd (true≢false e)
+size-differs o size e = absurd (true≢false e)
+size-differs o (modify k v) e = absurd (true≢false e)
+
+table-no : (o p : TableOperation) → recoverable (onTable o) (onTable p) ≡ false
+    → Differ (tableReply o (tableNext p (witness (onTable p)))) (tableReply o (witness (onTable p)))
+table-no (tableInsert k v) p e = rw (present-turns (onTable (tableInsert k v)) p e) (flags-differ (not (present k (witness (onTable p)))))
+table-no (tableDelete k) p e = rw (present-turns (onTable (tableDelete k)) p e) (flags-differ (present k (witness (onTable p))))
+table-no (lookup k) p e = lookup-differs (onTable (lookup k)) p e
+table-no size p e = size-differs (onTable size) p e
+table-no (modify k v) p e = rw (present-turns (onTable (modify k v)) p e) (flags-differ (present k (witness (onTable p))))
+
+member-turns : (o : Operation) (p : SetOperation) → allows (ruleAt setRecoverable 1 (numberOf (onSet p) - 4)) o (onSet p) ≡ false
+    → present (keyOf o) (setNext p (witness (onSet p))) ≡ not (present (keyOf o) (witness (onSet p)))
+member-turns o (setInsert k) e = rw (equal (keyOf o) k e) (simp byOrder-equal)
+member-turns o (setDelete k) e = rw (equal (keyOf o) k e) (simp byOrder-equal)
+member-turns o (member k) e = absurd (true≢false e)
+
+set-no : (o p : SetOperation) → recoverable (onSet o) (onSet p) ≡ false → Differ (setReply o (setNext p (witness (onSet p)))) (setReply o (witness (onSet p)))
+set-no (setInsert k) (setInsert j) e = absurd (true≢false e)
+set-no (setInsert k) (setDelete j) e = absurd (true≢false e)
+set-no (setInsert k) (member j) e = absurd (true≢false e)
+set-no (setDelete k) p e = rw (member-turns (onSet (setDelete k)) p e) (flags-differ (present k (witness (onSet p))))
+set-no (member k) p e = rw (member-turns (onSet (member k)) p e) (flags-differ (present k (witness (onSet p))))
+
+pub witness-differs : (kind : Kind) (o p : Operation) → kindOf o ≡ kind → kindOf p ≡ kind → recoverable o p ≡ false
+    → Differ (reply o (next p (witness p))) (reply o (witness p))
+witness-differs =
+    byKinds (λ (k : Kind) (q r : Operation). recoverable q r ≡ false → Differ (reply q (next r (witness r))) (reply q (witness r))) stack-no set-no table-no
