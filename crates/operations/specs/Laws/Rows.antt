@@ -14,7 +14,7 @@ use Rattle.operations.specs.Laws.Cases.{split, by-key, all-map, all-appe
 
 -- ---- The three cases of an order
 
-order : {A : Type 0} (j k : ℕ) → (j < k → A) → (j ≡ k → A) → (k < j → A) → A
+pub order : {A : Type 0} (j k : ℕ) → (j < k → A) → (j ≡ k → A) → (k < j → A) → A
 order j k less equal greater =
     split (ltb j k) (λ (e : ltb j k ≡ true). less (ltb-true j k e))
     (λ (l : ltb j k ≡ false).

@@ -1,0 +1,13 @@
+-- A set of transactions, numbered from 0, as the binary digits of a number.
+use Prim.Native.Nat.{ℕ, _/_, _%_, _^_}
+use mathlib.Core.Path.{_≡_}
+use mathlib.Core.Bool.{Bool}
+use lib.Dec.{eqb}
+
+-- Transaction h is a member of the set s where bit h of s is 1.
+unfoldable pub has : ℕ → ℕ → Bool
+has s h = eqb (s / 2 ^ h % 2) 1
+
+-- The set s has exactly the members that f tells.
+abbrev pub Members : ℕ → (ℕ → Bool) → Type 0
+Members s f = (h : ℕ) → has s h ≡ f h

@@ -1,0 +1,5 @@
+pub mod Pairs
+pub mod Lists
+pub mod Positions
+pub mod Copies
+pub mod Numbers

@@ -1,0 +1,4 @@
+pub mod Stored
+pub mod Pairs
+pub mod Replay
+pub mod Laws
