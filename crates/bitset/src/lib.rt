@@ -20,14 +20,14 @@ pub fn join(a: u64, b: u64) -> u64
     a | b
 }
 
-// The intersection, which keeps the circle test to finished transactions.
+// The intersection, which keeps the cycle test to pseudo-committed transactions.
 pub fn meet(a: u64, b: u64) -> u64
     ensures { λ r. ⌜ Members r (λ h. has a h && has b h) ⌝ }
 {
     a & b
 }
 
-// Whether a transaction is a member, as the circle test asks of the one that finishes.
+// Whether a transaction is a member, as the cycle test asks of the one that finishes.
 pub fn contains(set: u64, transaction: u32) -> bool
     requires { ⌜ transaction < 64 ⌝ }
     ensures { λ r. ⌜ r ≡ has set transaction ⌝ }

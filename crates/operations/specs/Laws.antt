@@ -1,4 +1,5 @@
 pub mod Cases
+pub mod Storing
 pub mod Recoverability
 pub mod Rows
 pub mod Stacks

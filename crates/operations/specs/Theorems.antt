@@ -1,19 +1,32 @@
 -- What holds of the operations and the pair rules, for every kind of object, every operation and argument, every well-formed state of
 -- any size, and any key reduction.
 use Prim.Native.Nat.{ℕ, _^_, _<_}
-use mathlib.Core.Path.{_≡_, ap}
+use mathlib.Core.Path.{_≡_, refl, ap}
 use mathlib.Core.Logic.{_↔_}
 use mathlib.Core.Bool.{Bool, true, false}
+use mathlib.Core.Option.{some}
 use mathlib.Core.List.{List}
-use Rattle.operations.specs.Operations.{Kind, Row, replied, valued, push, pop, TableOperation, onTable, Operation, keyOf, found, stackNext, stackReply, tableNext, next, reply, All, Ascending, WellFormed, Holdable, Fits}
+use Rattle.operations.specs.Operations.{Kind, Row, replied, valued, push, pop, TableOperation, onTable, onStack, Operation, kindOf, keyOf, reduceKey, stored, found, stackNext, stackReply, tableNext, next, reply, All, Ascending, WellFormed, Holdable, Fits}
 use Rattle.operations.specs.PairRules.{recoverable, commutes}
 use Rattle.operations.specs.Log.{Log, EntryFits, Recoverable, Commuting, Answered, after, only, others}
 use Rattle.operations.specs.Laws.Cases.{split}
+use Rattle.operations.specs.Laws.Storing.{stored-reduced, reduced-once}
 use Rattle.operations.specs.Laws.Stacks.{top-of-pushed, popped-of-pushed}
 use Rattle.operations.specs.Laws.Tables.{change, found-own, found-other}
 use Rattle.operations.specs.Laws.Objects.{object}
 use Rattle.operations.specs.Laws.Witnesses.{witness, witness-valid, witness-holdable, witness-differs}
 use Rattle.operations.specs.Laws.Recoverability as recoverability
+
+-- ---- Arguments as stored
+
+-- What a call stores is an operation of its kind with a reduced key.
+pub stored-fits : (number k v : ℕ) (o : Operation) → stored reduceKey number k v ≡ some o → Fits reduceKey (kindOf o) o
+unfolding reduceKey
+stored-fits number k v o e = (refl, stored-reduced reduceKey reduced-once refl number k v o e)
+
+-- A stack's item is stored as it is.
+pub item-stored : (item v : ℕ) → stored reduceKey 1 item v ≡ some (onStack (push item))
+item-stored item v = refl
 
 -- ---- Operations
 

@@ -1,4 +1,4 @@
--- `bitset::contains` meets its contract. Assumes nothing.
+-- `bitset::contains` meets its contract.
 use borrow.Author.Needs.{needs}
 use Rattle.bitset.proofs.Laws.{tested}
 use Rattle.bitset.proofs.contains.Statement.{statement}

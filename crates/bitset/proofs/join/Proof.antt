@@ -1,4 +1,4 @@
--- `bitset::join` meets its contract. Assumes nothing.
+-- `bitset::join` meets its contract.
 use Rattle.bitset.proofs.Laws.{joined}
 use Rattle.bitset.proofs.join.Statement.{statement}
 use Rattle.bitset.proofs.join.Tie as tie

@@ -1,4 +1,4 @@
--- `bitset::meet` meets its contract. Assumes nothing.
+-- `bitset::meet` meets its contract.
 use Rattle.bitset.proofs.Laws.{met}
 use Rattle.bitset.proofs.meet.Statement.{statement}
 use Rattle.bitset.proofs.meet.Tie as tie

@@ -1,4 +1,4 @@
--- `bitset::single` meets its contract. Assumes nothing.
+-- `bitset::single` meets its contract.
 use borrow.Author.Needs.{needs}
 use Rattle.bitset.proofs.Laws.{shifted}
 use Rattle.bitset.proofs.single.Statement.{statement}

@@ -1,14 +1,14 @@
 -- Laws of rows with ascending keys: what each change does to the value found at a key, and that ascending rows with the same values are equal.
-use Prim.Native.Nat.{ℕ, suc, _<_, _≤_}
+use Prim.Native.Nat.{ℕ, _<_, _≤_}
 use mathlib.Core.Path.{_≡_, refl, sym, ap, _∙_}
 use mathlib.Core.Bool.{Bool, true, false, cond}
-use mathlib.Core.Option.{Option, none, some}
-use mathlib.Core.List.{List, [], _∷_, _++_}
+use mathlib.Core.Option.{Option, none, some, Option·none-ne-some}
+use mathlib.Core.List.{List, [], _∷_, _++_, map}
 use native.Mathlib.Nat.{lt-of-le-of-lt, lt-trans}
 use native.Mathlib.Omega.{arith}
 use borrow.Author.Tests.{lt-ltb, le-ltb, eq-eqb, ne-eqb, ltb-true, ltb-false, eqb-true, eqb-false}
 use lib.Dec.{ltb, eqb}
-use lib.ListN.{length}
+use lib.ListN.{length, length-map}
 use Rattle.operations.specs.Operations.{Row, row, All, Ascending, byOrder, found, present, inserted, deleted, modified}
 use Rattle.operations.specs.Laws.Cases.{split, by-key, all-map, all-append}
 
@@ -166,13 +166,10 @@ module _ (k : ℕ) (f : Option ℕ → Option ℕ) where
 
 -- ---- Ascending rows that have the same values are equal
 
-unfound : {v : ℕ} → none ≡ some v → ⊥
-unfound {v} p = let z : _≡_ {A = ℕ} 0 1 = cc in omega arith
-
 -- the first key of one is in the other, so it is not below the other's first
 not-first : (r q : Row) (s t : List Row) → ((j : ℕ) → found j (r ∷ s) ≡ found j (q ∷ t)) → r .key < q .key → ⊥
 not-first r q s t e h =
-    unfound (sym (byOrder-greater (found (r .key) t) (some (q .value)) none h) ∙ sym (e (r .key)) ∙ found-self (r .key) (r .value) s)
+    Option·none-ne-some _ (sym (byOrder-greater (found (r .key) t) (some (q .value)) none h) ∙ sym (e (r .key)) ∙ found-self (r .key) (r .value) s)
 
 same-tails : (r q : Row) (s t : List Row) → Ascending (r ∷ s) → Ascending (q ∷ t) → r .key ≡ q .key → ((j : ℕ) → found j (r ∷ s) ≡ found j (q ∷ t))
     → (j : ℕ) → found j s ≡ found j t
@@ -185,8 +182,8 @@ same-tails r q s t a b k e j =
 
 same-rows : (s t : List Row) → Ascending s → Ascending t → ((j : ℕ) → found j s ≡ found j t) → s ≡ t
 same-rows [] [] a b e = refl
-same-rows [] (q ∷ t) a b e = absurd (unfound (e (q .key) ∙ found-self (q .key) (q .value) t))
-same-rows (r ∷ s) [] a b e = absurd (unfound (sym (e (r .key)) ∙ found-self (r .key) (r .value) s))
+same-rows [] (q ∷ t) a b e = absurd (Option·none-ne-some _ (e (q .key) ∙ found-self (q .key) (q .value) t))
+same-rows (r ∷ s) [] a b e = absurd (Option·none-ne-some _ (sym (e (r .key)) ∙ found-self (r .key) (r .value) s))
 same-rows (r ∷ s) (q ∷ t) a b e =
     order (r .key) (q .key) (λ (h : r .key < q .key). absurd (not-first r q s t e h))
     (λ (h : r .key ≡ q .key).
@@ -228,8 +225,7 @@ alter-commutes j k f g rs n a =
 
 -- the rows with every value 0: a set with the same keys
 abbrev keys : List Row → List Row
-keys [] = []
-keys (r ∷ rs) = row (r .key) 0 ∷ keys rs
+keys = map (λ r. row (r .key) 0)
 
 keys-found : (j : ℕ) (rs : List Row) → found j (keys rs) ≡ cond (present j rs) (some 0) none
 keys-found j [] = refl
@@ -244,15 +240,11 @@ keys-ascending (r ∷ rs) a = (over rs (a .0), keys-ascending rs (a .1))
     over [] b = tt
     over (q ∷ qs) b = (b .0, over qs (b .1))
 
-keys-length : (rs : List Row) → length (keys rs) ≡ length rs
-keys-length [] = refl
-keys-length (r ∷ rs) = ap suc (keys-length rs)
-
 -- ascending rows with the same keys are equally many
 pub same-length : (s t : List Row) → Ascending s → Ascending t → ((j : ℕ) → present j s ≡ present j t) → length s ≡ length t
 same-length s t a b e =
-    sym (keys-length s)
+    sym (length-map s (λ r. row (r .key) 0))
     ∙ ap length
     (same-rows (keys s) (keys t) (keys-ascending s a) (keys-ascending t b)
     (λ j. keys-found j s ∙ ap (λ (x : Bool). cond x (some 0) none) (e j) ∙ sym (keys-found j t)))
-    ∙ keys-length t
+    ∙ length-map t (λ r. row (r .key) 0)

@@ -1,0 +1,142 @@
+// The pair rules as constant tables: a row for each requested operation, in it a code for each logged one.
+use operations::Operation;
+ghost use mathlib.Core.Path.{_≡_};
+ghost use Prim.Native.Nat.{_-_, _≤_};
+ghost use Rattle.operations.specs.PairRules.{Rule, recoverable as Recoverable, commutes as Commutes, stackRecoverable, setRecoverable, tableRecoverable, stackCommuting, setCommuting, tableCommuting};
+ghost use Rattle.pairs.specs.Pairs.{OneKind, codeOf, codeAt, allowsKeys, pairOf};
+
+pub const NEVER: u8 = 0;
+
+pub const ALWAYS: u8 = 1;
+
+pub const APART: u8 = 2;
+
+// push, pop, top
+const STACK_RECOVERABLE: [[u8; 3]; 3] = [
+    [ALWAYS, ALWAYS, ALWAYS], // push against
+    [NEVER, NEVER, ALWAYS], // pop against
+    [NEVER, NEVER, ALWAYS], // top against
+];
+
+const STACK_COMMUTING: [[u8; 3]; 3] = [
+    [NEVER, NEVER, NEVER], // push with
+    [NEVER, NEVER, NEVER], // pop with
+    [NEVER, NEVER, ALWAYS], // top with
+];
+
+// insert, delete, member
+const SET_RECOVERABLE: [[u8; 3]; 3] = [
+    [ALWAYS, ALWAYS, ALWAYS], // insert against
+    [APART, APART, ALWAYS], // delete against
+    [APART, APART, ALWAYS], // member against
+];
+
+const SET_COMMUTING: [[u8; 3]; 3] = [
+    [ALWAYS, APART, APART], // insert with
+    [APART, APART, APART], // delete with
+    [APART, APART, ALWAYS], // member with
+];
+
+// insert, delete, lookup, size, modify
+const TABLE_RECOVERABLE: [[u8; 5]; 5] = [
+    [APART, APART, ALWAYS, ALWAYS, ALWAYS], // insert against
+    [APART, APART, ALWAYS, ALWAYS, ALWAYS], // delete against
+    [APART, APART, ALWAYS, ALWAYS, APART], // lookup against
+    [NEVER, NEVER, ALWAYS, ALWAYS, ALWAYS], // size against
+    [APART, APART, ALWAYS, ALWAYS, ALWAYS], // modify against
+];
+
+const TABLE_COMMUTING: [[u8; 5]; 5] = [
+    [APART, APART, APART, NEVER, APART], // insert with
+    [APART, APART, APART, NEVER, APART], // delete with
+    [APART, APART, ALWAYS, ALWAYS, APART], // lookup with
+    [NEVER, NEVER, ALWAYS, ALWAYS, ALWAYS], // size with
+    [APART, APART, APART, ALWAYS, APART], // modify with
+];
+
+// Each look-up takes the two operations' numbers.
+
+pub fn stack_recoverable(requested: u32, logged: u32) -> u8
+    requires { ⌜ (1 ≤ requested) × (requested ≤ 3) × (1 ≤ logged) × (logged ≤ 3) ⌝ }
+    ensures { λ r. ⌜ r ≡ codeAt stackRecoverable (requested - 1) (logged - 1) ⌝ }
+{
+    STACK_RECOVERABLE[(requested - 1) as usize][(logged - 1) as usize]
+}
+
+pub fn set_recoverable(requested: u32, logged: u32) -> u8
+    requires { ⌜ (4 ≤ requested) × (requested ≤ 6) × (4 ≤ logged) × (logged ≤ 6) ⌝ }
+    ensures { λ r. ⌜ r ≡ codeAt setRecoverable (requested - 4) (logged - 4) ⌝ }
+{
+    SET_RECOVERABLE[(requested - 4) as usize][(logged - 4) as usize]
+}
+
+pub fn table_recoverable(requested: u32, logged: u32) -> u8
+    requires { ⌜ (7 ≤ requested) × (requested ≤ 11) × (7 ≤ logged) × (logged ≤ 11) ⌝ }
+    ensures { λ r. ⌜ r ≡ codeAt tableRecoverable (requested - 7) (logged - 7) ⌝ }
+{
+    TABLE_RECOVERABLE[(requested - 7) as usize][(logged - 7) as usize]
+}
+
+pub fn stack_commuting(requested: u32, logged: u32) -> u8
+    requires { ⌜ (1 ≤ requested) × (requested ≤ 3) × (1 ≤ logged) × (logged ≤ 3) ⌝ }
+    ensures { λ r. ⌜ r ≡ codeAt stackCommuting (requested - 1) (logged - 1) ⌝ }
+{
+    STACK_COMMUTING[(requested - 1) as usize][(logged - 1) as usize]
+}
+
+pub fn set_commuting(requested: u32, logged: u32) -> u8
+    requires { ⌜ (4 ≤ requested) × (requested ≤ 6) × (4 ≤ logged) × (logged ≤ 6) ⌝ }
+    ensures { λ r. ⌜ r ≡ codeAt setCommuting (requested - 4) (logged - 4) ⌝ }
+{
+    SET_COMMUTING[(requested - 4) as usize][(logged - 4) as usize]
+}
+
+pub fn table_commuting(requested: u32, logged: u32) -> u8
+    requires { ⌜ (7 ≤ requested) × (requested ≤ 11) × (7 ≤ logged) × (logged ≤ 11) ⌝ }
+    ensures { λ r. ⌜ r ≡ codeAt tableCommuting (requested - 7) (logged - 7) ⌝ }
+{
+    TABLE_COMMUTING[(requested - 7) as usize][(logged - 7) as usize]
+}
+
+// A table's code, tested on the two operations.
+fn allowed(code: u8, requested: Operation, logged: Operation) -> bool
+    ensures { λ r. ⌜ ((rule : Rule) → code ≡ codeOf rule → r ≡ allowsKeys rule (requested .key) (logged .key)) ⌝ }
+{
+    match code {
+        NEVER => false,
+        ALWAYS => true,
+        _ => requested.key != logged.key,
+    }
+}
+
+// Whether the requested operation is recoverable against the logged one, both of one kind.
+pub fn recoverable(requested: Operation, logged: Operation) -> bool
+    requires { ⌜ OneKind requested logged ⌝ }
+    ensures { λ r. ⌜ r ≡ pairOf Recoverable requested logged ⌝ }
+{
+    let a = requested.number;
+    let b = logged.number;
+    if a <= 3 {
+        return allowed(stack_recoverable(a, b), requested, logged);
+    }
+    if a <= 6 {
+        return allowed(set_recoverable(a, b), requested, logged);
+    }
+    allowed(table_recoverable(a, b), requested, logged)
+}
+
+// Whether the requested operation commutes with the logged one, both of one kind.
+pub fn commutes(requested: Operation, logged: Operation) -> bool
+    requires { ⌜ OneKind requested logged ⌝ }
+    ensures { λ r. ⌜ r ≡ pairOf Commutes requested logged ⌝ }
+{
+    let a = requested.number;
+    let b = logged.number;
+    if a <= 3 {
+        return allowed(stack_commuting(a, b), requested, logged);
+    }
+    if a <= 6 {
+        return allowed(set_commuting(a, b), requested, logged);
+    }
+    allowed(table_commuting(a, b), requested, logged)
+}

@@ -1,0 +1,77 @@
+-- `replay::closed`: the rows so far with place i left out give the whole answer.
+use Prim.Native.Nat.{_-_, _<_}
+use mathlib.Core.Path.{_≡_, refl, _∙_}
+use mathlib.Core.List.{[]}
+use native.Mathlib.Omega.{arith}
+use borrow.Author.Needs.{needs}
+use lib.ListN.{length, take, length-set}
+use Rattle.replay.specs.Replay.{removedAt}
+use Rattle.replay.specs.Laws.Lists.{closed-turn, closed-end}
+use Rattle.replay.proofs.closed.Statement.{statement}
+use Rattle.replay.proofs.closed.Tie as tie
+
+abbrev Inv-loop : tie.InvT-loop
+Inv-loop count at rows₀ i₀ rows i = (i < count) × (length rows ≡ 64) × (removedAt i (take count rows) ≡ removedAt at (take count rows₀))
+
+abbrev μ-loop : tie.MeasureT-loop
+μ-loop count at rows₀ i₀ rows i = count - i
+
+loop-holds : tie.Need-loop-holds Inv-loop μ-loop
+loop-holds c = (c .pre .0, c .good .0 .1 .0 .1, refl)
+
+add-loop : tie.Need-add-loop Inv-loop μ-loop
+add-loop c = search needs
+
+add-moved : tie.Need-add-moved Inv-loop μ-loop
+add-moved c = search needs
+
+mul-moved : tie.Need-mul-moved Inv-loop μ-loop
+mul-moved c = search needs
+
+array-copy-out-moved : tie.Need-array-copy-out-moved Inv-loop μ-loop
+array-copy-out-moved c = search needs
+
+mul-rows : tie.Need-mul-rows Inv-loop μ-loop
+mul-rows c = search needs
+
+array-set-from-rows : tie.Need-array-set-from-rows Inv-loop μ-loop
+array-set-from-rows c = search needs
+
+add-i : tie.Need-add-i Inv-loop μ-loop
+add-i c = search needs
+
+loop-less : tie.Need-loop-less Inv-loop μ-loop
+loop-less c = search needs
+
+loop-again : tie.Need-loop-again Inv-loop μ-loop
+loop-again c =
+    let at-loop = c .before .before .loop in
+    let l : length (at-loop .rows) ≡ 64 = at-loop .inv .1 in (
+      c .before .loop-test .taken,
+      simp length-set l,
+      closed-turn _ _ [] (at-loop .i) (c .before .loop-test .taken) (omega arith) ∙ at-loop .inv .2,
+    )
+
+returns : tie.Need-returns Inv-loop μ-loop
+returns c =
+    let at-loop = c .before .loop in
+    let l : length (at-loop .rows) ≡ 64 = at-loop .inv .1 in
+    closed-end (at-loop .rows) (c .before .before .args .count) [] (at-loop .i) (omega arith) (omega arith) ∙ at-loop .inv .2
+
+pub closed-spec : {M : Type 1} → statement M
+closed-spec =
+    tie.close
+    (tie.spec
+    Inv-loop
+    μ-loop
+    loop-holds
+    add-loop
+    add-moved
+    mul-moved
+    array-copy-out-moved
+    mul-rows
+    array-set-from-rows
+    add-i
+    loop-less
+    loop-again
+    returns)

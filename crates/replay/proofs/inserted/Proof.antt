@@ -1,0 +1,45 @@
+use Prim.Native.Nat.{_≤_}
+use mathlib.Core.Path.{sym, _∙_}
+use native.Mathlib.Omega.{arith}
+use borrow.Author.Needs.{needs}
+use lib.ListN.{length}
+use lib.Seq.{length-take-le}
+use Rattle.replay.specs.Laws.Copies.{room, inserted-kept, inserted-put}
+use Rattle.replay.proofs.inserted.Statement.{statement}
+use Rattle.replay.proofs.inserted.Tie as tie
+
+fits : (c : tie.Start) → c .args .count ≤ length (c .args .t1)
+fits c = omega (arith, c .good .0 .1 .0 .1)
+
+array-share-prefix-rows : tie.Need-array-share-prefix-rows
+array-share-prefix-rows c = search needs
+
+slice-aggregate-live : tie.Need-slice-aggregate-live
+slice-aggregate-live c = sym (length-take-le _ _ (fits (c .before)))
+
+position-requires : tie.Need-position-requires
+position-requires c κs = search needs
+
+present-requires : tie.Need-present-requires
+present-requires c κs = search needs
+
+returns : tie.Need-returns
+returns c = inserted-kept _ _ (fits (c .before .before .before .before)) _ _ (c .before .before .position .ensures) _ (sym (c .before .present .ensures) ∙ c .if1 .taken)
+
+opened-requires : tie.Need-opened-requires
+opened-requires c κs = room _ _ (fits (c .before .before .before .before)) _ _ (c .before .before .position .ensures) _ 64 (sym (c .before .present .ensures) ∙ c .if1 .left) (c .before .before .before .before .pre .1)
+
+returns-2 : tie.Need-returns-2
+returns-2 c = inserted-put _ _ (fits (c .before .before .before .before .before)) _ _ (c .before .before .before .position .ensures) _ _ (sym (c .before .before .present .ensures) ∙ c .before .if1 .left) (c .opened .ensures)
+
+pub inserted-spec : {M : Type 1} → statement M
+inserted-spec =
+    tie.close
+    (tie.spec
+    array-share-prefix-rows
+    slice-aggregate-live
+    position-requires
+    present-requires
+    returns
+    opened-requires
+    returns-2)

@@ -1,0 +1,80 @@
+use Prim.Native.Nat.{_≤_}
+use mathlib.Core.Path.{sym, _∙_}
+use native.Mathlib.Omega.{arith}
+use borrow.Author.Needs.{needs}
+use lib.ListN.{length}
+use lib.Seq.{length-take-le}
+use Rattle.replay.specs.Laws.Copies.{nonempty}
+use Rattle.replay.specs.Laws.Numbers.{count-push, count-pop, count-pop-empty, count-insert-same, count-insert-more, count-delete-less, count-delete-same, count-same}
+use Rattle.replay.proofs.next_count.Statement.{statement}
+use Rattle.replay.proofs.next_count.Tie as tie
+
+fits : (c : tie.After-copy) → c .before .args .count ≤ length (c .before .args .rows .now)
+fits c = omega (arith, c .copy .given .0)
+
+slice-aggregate-live : tie.Need-slice-aggregate-live
+slice-aggregate-live c = sym (length-take-le _ _ (fits (c .before)))
+
+add-result : tie.Need-add-result
+add-result c = search needs
+
+sub-result : tie.Need-sub-result
+sub-result c = search needs
+
+contains-requires : tie.Need-contains-requires
+contains-requires c κs = search needs
+
+add-result-2 : tie.Need-add-result-2
+add-result-2 c = search needs
+
+contains-requires-2 : tie.Need-contains-requires-2
+contains-requires-2 c κs = search needs
+
+sub-result-2 : tie.Need-sub-result-2
+sub-result-2 c = nonempty _ _ (fits (c .before .before .before .before)) _ (sym (c .before .contains2 .ensures) ∙ c .if3 .taken)
+
+returns : tie.Need-returns
+returns c = count-push (c .before .before .before .args .operation) _ _ (fits (c .before .before)) (c .match .keys1)
+
+returns-2 : tie.Need-returns-2
+returns-2 c = count-pop-empty (c .before .before .before .before .args .operation) _ _ (fits (c .before .before .before)) (c .before .match .keys2) (c .if1 .taken)
+
+returns-3 : tie.Need-returns-3
+returns-3 c = count-pop (c .before .before .before .before .args .operation) _ _ (fits (c .before .before .before)) (c .before .match .keys2)
+
+returns-4 : tie.Need-returns-4
+returns-4 c = count-insert-same (c .before .before .before .before .before .args .operation) _ _ (fits (c .before .before .before .before)) (c .before .before .match .keys3) (sym (c .before .contains .ensures) ∙ c .if2 .taken)
+
+returns-5 : tie.Need-returns-5
+returns-5 c = count-insert-more (c .before .before .before .before .before .args .operation) _ _ (fits (c .before .before .before .before)) (c .before .before .match .keys3) (sym (c .before .contains .ensures) ∙ c .if2 .left)
+
+returns-6 : tie.Need-returns-6
+returns-6 c = count-delete-less (c .before .before .before .before .before .args .operation) _ _ (fits (c .before .before .before .before)) (c .before .before .match .keys4) (sym (c .before .contains2 .ensures) ∙ c .if3 .taken)
+
+returns-7 : tie.Need-returns-7
+returns-7 c = count-delete-same (c .before .before .before .before .before .args .operation) _ _ (fits (c .before .before .before .before)) (c .before .before .match .keys4) (sym (c .before .contains2 .ensures) ∙ c .if3 .left)
+
+returns-8 : tie.Need-returns-8
+returns-8 c =
+    let rest = c .match .rest in
+    count-same (c .before .before .before .args .operation) _ _ (fits (c .before .before)) (rest .0 .0 .0 .1) (rest .0 .0 .1) (rest .0 .1) (rest .1)
+
+pub next-count-spec : {M : Type 1} → statement M
+next-count-spec =
+    tie.close
+    (tie.spec
+    slice-aggregate-live
+    add-result
+    sub-result
+    contains-requires
+    add-result-2
+    contains-requires-2
+    sub-result-2
+    returns
+    returns-2
+    returns-3
+    returns-4
+    returns-5
+    returns-6
+    returns-7
+    returns-8)

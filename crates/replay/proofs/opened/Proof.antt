@@ -1,0 +1,78 @@
+-- `replay::opened`: what is carried, put in at i of the rows so far, gives the whole answer.
+use Prim.Native.Nat.{_-_, _≤_}
+use mathlib.Core.Path.{_≡_, refl, _∙_}
+use mathlib.Core.List.{[]}
+use native.Mathlib.Omega.{arith}
+use borrow.Author.Needs.{needs}
+use lib.ListN.{length, take, length-set}
+use Rattle.replay.specs.Replay.{putAt}
+use Rattle.replay.specs.Laws.Lists.{opened-turn, opened-end}
+use Rattle.replay.proofs.opened.Statement.{statement}
+use Rattle.replay.proofs.opened.Tie as tie
+
+abbrev Inv-loop : tie.InvT-loop
+Inv-loop count at rows₀ carried₀ i₀ rows carried i = (i ≤ count) × (length rows ≡ 64) × (putAt i carried (take count rows) ≡ putAt at carried₀ (take count rows₀))
+
+abbrev μ-loop : tie.MeasureT-loop
+μ-loop count at rows₀ carried₀ i₀ rows carried i = count - i
+
+loop-holds : tie.Need-loop-holds Inv-loop μ-loop
+loop-holds c = (c .pre .0, c .good .0 .1 .0 .1, refl)
+
+mul-moved : tie.Need-mul-moved Inv-loop μ-loop
+mul-moved c = search needs
+
+array-copy-out-moved : tie.Need-array-copy-out-moved Inv-loop μ-loop
+array-copy-out-moved c = search needs
+
+mul-rows : tie.Need-mul-rows Inv-loop μ-loop
+mul-rows c = search needs
+
+array-set-from-rows : tie.Need-array-set-from-rows Inv-loop μ-loop
+array-set-from-rows c = search needs
+
+add-i : tie.Need-add-i Inv-loop μ-loop
+add-i c = search needs
+
+loop-less : tie.Need-loop-less Inv-loop μ-loop
+loop-less c = search needs
+
+loop-again : tie.Need-loop-again Inv-loop μ-loop
+loop-again c =
+    let at-loop = c .before .before .loop in
+    let l : length (at-loop .rows) ≡ 64 = at-loop .inv .1 in (
+      omega arith,
+      simp length-set l,
+      opened-turn _ _ _ [] (at-loop .i) (c .before .loop-test .taken) (omega arith) ∙ at-loop .inv .2,
+    )
+
+mul-rows-2 : tie.Need-mul-rows-2 Inv-loop μ-loop
+mul-rows-2 c = search needs
+
+array-set-from-rows-2 : tie.Need-array-set-from-rows-2 Inv-loop μ-loop
+array-set-from-rows-2 c = search needs
+
+returns : tie.Need-returns Inv-loop μ-loop
+returns c =
+    let at-loop = c .before .loop in
+    let l : length (at-loop .rows) ≡ 64 = at-loop .inv .1 in
+    let e : at-loop .i ≡ c .before .before .args .count = omega arith in
+    opened-end (at-loop .rows) (c .before .before .args .count) (at-loop .carried) [] (omega arith) ∙ (rw e at (at-loop .inv .2))
+
+pub opened-spec : {M : Type 1} → statement M
+opened-spec =
+    tie.close
+    (tie.spec
+    Inv-loop
+    μ-loop
+    loop-holds
+    mul-moved
+    array-copy-out-moved
+    mul-rows
+    array-set-from-rows
+    add-i
+    loop-less
+    loop-again
+    mul-rows-2
+    array-set-from-rows-2
+    returns)

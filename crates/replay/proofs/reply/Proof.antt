@@ -1,0 +1,109 @@
+use Prim.Native.Nat.{_≤_}
+use mathlib.Core.Path.{ap, sym, _∙_}
+use mathlib.Core.Logic.{⊎-elim}
+use mathlib.Core.Bool.{not}
+use mathlib.Core.List.{List}
+use native.Mathlib.Omega.{arith}
+use borrow.Author.Needs.{needs}
+use lib.ListN.{length}
+use lib.Seq.{length-take-le}
+use Rattle.operations.specs.Operations.{Row, replied, flag}
+use Rattle.operations.specs.declared.Operation.{Operation}
+use Rattle.replay.specs.Replay.{rowsOf}
+use Rattle.replay.specs.Laws.Copies.{count-rows}
+use Rattle.replay.specs.Laws.Numbers.{reply-done, reply-top, reply-insert, reply-lookup, reply-size, reply-present, reply-present-set, reply-below, reply-above}
+use Rattle.replay.proofs.reply.Statement.{statement}
+use Rattle.replay.proofs.reply.Tie as tie
+
+abbrev asked : tie.Start → Operation
+asked s = s .args .operation
+
+abbrev live : tie.Start → List Row
+live s = rowsOf (s .args .rows .now) (s .args .count)
+
+fits : (c : tie.After-copy) → c .before .args .count ≤ length (c .before .args .rows .now)
+fits c = omega (arith, c .copy .given .0)
+
+slice-aggregate-live : tie.Need-slice-aggregate-live
+slice-aggregate-live c = sym (length-take-le _ _ (fits (c .before)))
+
+contains-requires : tie.Need-contains-requires
+contains-requires c κs = search needs
+
+flag-requires : tie.Need-flag-requires
+flag-requires c κs = search needs
+
+lookup-requires : tie.Need-lookup-requires
+lookup-requires c κs = search needs
+
+cast-t13 : tie.Need-cast-t13
+cast-t13 c = search needs
+
+top-requires : tie.Need-top-requires
+top-requires c κs = search needs
+
+contains-requires-2 : tie.Need-contains-requires-2
+contains-requires-2 c κs = search needs
+
+flag-requires-2 : tie.Need-flag-requires-2
+flag-requires-2 c κs = search needs
+
+returns : tie.Need-returns
+returns c = reply-done (asked (c .before .before .before)) (live (c .before .before .before)) (c .match .keys1)
+
+returns-2 : tie.Need-returns-2
+returns-2 c =
+    c .flag .ensures
+    ∙ ap (λ b. flag (not b)) (c .before .contains .ensures)
+    ∙ reply-insert (asked (c .before .before .before .before .before)) (live (c .before .before .before .before .before)) (c .before .before .match .keys3)
+
+returns-3 : tie.Need-returns-3
+returns-3 c = c .lookup .ensures ∙ reply-lookup (asked (c .before .before .before .before)) (live (c .before .before .before .before)) (c .before .match .keys4)
+
+returns-4 : tie.Need-returns-4
+returns-4 c =
+    ap (λ n. replied 1 n) (sym (count-rows _ _ (fits (c .before .before))))
+    ∙ reply-size (asked (c .before .before .before)) (live (c .before .before .before)) (c .match .keys5)
+
+returns-5 : tie.Need-returns-5
+returns-5 c =
+    c .top .ensures
+    ∙ reply-top (asked (c .before .before .before .before .before .before)) (live (c .before .before .before .before .before .before)) (c .before .before .before .match .rest .0 .0 .0 .0 .1) (c .before .before .if1 .left) (c .before .if2 .taken)
+
+returns-6 : tie.Need-returns-6
+returns-6 c = reply-below (asked (c .before .before .before .before)) (live (c .before .before .before .before)) (c .if1 .taken)
+
+returns-7 : tie.Need-returns-7
+returns-7 c =
+    let rest = c .before .before .before .match .rest in
+    reply-above (asked (c .before .before .before .before .before .before)) (live (c .before .before .before .before .before .before)) (rest .0 .0 .0 .1) (rest .0 .0 .1) (rest .0 .1) (rest .1) (c .if3 .left)
+
+returns-8 : tie.Need-returns-8
+returns-8 c =
+    c .flag2 .ensures
+    ∙ ap flag (c .before .contains2 .ensures)
+    ∙ ⊎-elim
+    (λ w. reply-present (asked (c .before .before .before .before .before)) (live (c .before .before .before .before .before)) (w .keys2))
+    (λ w. reply-present-set (asked (c .before .before .before .before .before)) (live (c .before .before .before .before .before)) (w .0 .rest .0 .0 .0 .0 .1) (w .2 .left) (w .3 .taken))
+    (c .before .before .match .came)
+
+pub reply-spec : {M : Type 1} → statement M
+reply-spec =
+    tie.close
+    (tie.spec
+    slice-aggregate-live
+    contains-requires
+    flag-requires
+    lookup-requires
+    cast-t13
+    top-requires
+    contains-requires-2
+    flag-requires-2
+    returns
+    returns-2
+    returns-3
+    returns-4
+    returns-5
+    returns-6
+    returns-7
+    returns-8)

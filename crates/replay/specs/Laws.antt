@@ -1,0 +1,4 @@
+pub mod Lists
+pub mod Positions
+pub mod Copies
+pub mod Numbers

@@ -1,0 +1,214 @@
+// Replay of one operation on a copy of an object's rows: 64 pairs by value, handed through and handed back.
+use operations::Operation;
+use operations::Reply;
+ghost use mathlib.Core.Path.{_≡_};
+ghost use mathlib.Core.List.{map};
+ghost use Prim.Native.Nat.{_+_, _-_, _<_, _≤_};
+ghost use lib.ListN.{length, take};
+ghost use Rattle.operations.specs.Operations.{flag as Flag, valued, topItem, found, present as Present, inserted as Inserted, deleted as Deleted, modified as Modified};
+ghost use Rattle.operations.specs.Stored.{told};
+ghost use Rattle.replay.specs.Replay.{nextOf, replyOf, rowOf, rowsOf, Holds, positionOf, putAt, removedAt};
+
+// The place of the first key that is not below `key`, or the number of rows.
+fn position(rows: &[[u32; 2]], key: u32) -> usize
+    ensures { λ r. ⌜ r ≡ positionOf key (map rowOf (now (rows .entry))) ⌝ }
+{
+    let mut at: usize = 0;
+    while at < rows.len() {
+        if rows[at][0] >= key {
+            return at;
+        }
+        at += 1;
+    }
+    at
+}
+
+// Whether a row has the key, whose position is given.
+fn present(rows: &[[u32; 2]], at: usize, key: u32) -> bool
+    requires { ⌜ at ≡ positionOf key (map rowOf (now rows)) ⌝ }
+    ensures { λ r. ⌜ r ≡ Present key (map rowOf (now (rows .entry))) ⌝ }
+{
+    if at < rows.len() {
+        return rows[at][0] == key;
+    }
+    false
+}
+
+fn contains(rows: &[[u32; 2]], key: u32) -> bool
+    ensures { λ r. ⌜ r ≡ Present key (map rowOf (now (rows .entry))) ⌝ }
+{
+    let at = position(rows, key);
+    present(rows, at, key)
+}
+
+// The rows with the pair put in at a place; the row there and those after it move up.
+fn opened(rows: [[u32; 2]; 64], count: usize, at: usize, pair: [u32; 2]) -> [[u32; 2]; 64]
+    requires { ⌜ (at ≤ count) × (count < 64) ⌝ }
+    ensures { λ r. ⌜ take (count + 1) r ≡ putAt at pair (take count rows) ⌝ }
+{
+    let mut rows = rows;
+    let mut carried = pair;
+    let mut i = at;
+    while i < count {
+        let moved = rows[i];
+        rows[i] = carried;
+        carried = moved;
+        i += 1;
+    }
+    rows[count] = carried;
+    rows
+}
+
+// The rows without the one at a place; those after it move down.
+fn closed(rows: [[u32; 2]; 64], count: usize, at: usize) -> [[u32; 2]; 64]
+    requires { ⌜ (at < count) × (count ≤ 64) ⌝ }
+    ensures { λ r. ⌜ take (count - 1) r ≡ removedAt at (take count rows) ⌝ }
+{
+    let mut rows = rows;
+    let mut i = at;
+    while i + 1 < count {
+        let moved = rows[i + 1];
+        rows[i] = moved;
+        i += 1;
+    }
+    rows
+}
+
+fn inserted(rows: [[u32; 2]; 64], count: usize, key: u32, value: u32) -> [[u32; 2]; 64]
+    requires { ⌜ (count ≤ 64) × (length (Inserted key value (rowsOf rows count)) ≤ 64) ⌝ }
+    ensures { λ r. ⌜ Holds r (Inserted key value (rowsOf rows count)) ⌝ }
+{
+    let live = &rows[..count];
+    let at = position(live, key);
+    if present(live, at, key) {
+        return rows;
+    }
+    opened(rows, count, at, [key, value])
+}
+
+fn deleted(rows: [[u32; 2]; 64], count: usize, key: u32) -> [[u32; 2]; 64]
+    requires { ⌜ count ≤ 64 ⌝ }
+    ensures { λ r. ⌜ Holds r (Deleted key (rowsOf rows count)) ⌝ }
+{
+    let live = &rows[..count];
+    let at = position(live, key);
+    if present(live, at, key) {
+        return closed(rows, count, at);
+    }
+    rows
+}
+
+fn modified(rows: [[u32; 2]; 64], count: usize, key: u32, value: u32) -> [[u32; 2]; 64]
+    requires { ⌜ count ≤ 64 ⌝ }
+    ensures { λ r. ⌜ Holds r (Modified key value (rowsOf rows count)) ⌝ }
+{
+    let mut rows = rows;
+    let live = &rows[..count];
+    let at = position(live, key);
+    if present(live, at, key) {
+        rows[at] = [key, value];
+    }
+    rows
+}
+
+// The rows after the operation, which the copy has room for. A pop only lowers the count.
+pub fn next_rows(rows: [[u32; 2]; 64], count: usize, operation: Operation) -> [[u32; 2]; 64]
+    requires { ⌜ (count ≤ 64) × (length (nextOf operation (rowsOf rows count)) ≤ 64) ⌝ }
+    ensures { λ r. ⌜ rowsOf r (length (nextOf operation (rowsOf rows count))) ≡ nextOf operation (rowsOf rows count) ⌝ }
+{
+    let number = operation.number;
+    let key = operation.key;
+    match number {
+        1 => opened(rows, count, count, [key, 0]),
+        4 => inserted(rows, count, key, 0),
+        5 | 8 => deleted(rows, count, key),
+        7 => inserted(rows, count, key, operation.value),
+        11 => modified(rows, count, key, operation.value),
+        _ => rows,
+    }
+}
+
+// How many rows there are after the operation.
+pub fn next_count(rows: &[[u32; 2]; 64], count: usize, operation: Operation) -> usize
+    requires { ⌜ count ≤ 64 ⌝ }
+    ensures { λ r. ⌜ r ≡ length (nextOf operation (rowsOf (now (rows .entry)) count)) ⌝ }
+{
+    let copy = &rows[..];
+    let live = &copy[..count];
+    let number = operation.number;
+    let key = operation.key;
+    match number {
+        1 => count + 1,
+        2 => if count == 0 { 0 } else { count - 1 },
+        4 | 7 => if contains(live, key) {
+            count
+        } else {
+            count + 1
+        },
+        5 | 8 => if contains(live, key) {
+            count - 1
+        } else {
+            count
+        },
+        _ => count,
+    }
+}
+
+// `1 0` or `0 0`.
+fn flag(b: bool) -> Reply
+    ensures { λ r. ⌜ told r ≡ Flag b ⌝ }
+{
+    if b {
+        return Reply { code: 1, value: 0 };
+    }
+    Reply { code: 0, value: 0 }
+}
+
+fn top(rows: &[[u32; 2]]) -> Reply
+    ensures { λ r. ⌜ told r ≡ valued (topItem (map rowOf (now (rows .entry)))) ⌝ }
+{
+    let count = rows.len();
+    if count == 0 {
+        return Reply { code: 0, value: 0 };
+    }
+    Reply {
+        code: 1,
+        value: rows[count - 1][0],
+    }
+}
+
+fn lookup(rows: &[[u32; 2]], key: u32) -> Reply
+    ensures { λ r. ⌜ told r ≡ valued (found key (map rowOf (now (rows .entry)))) ⌝ }
+{
+    let at = position(rows, key);
+    if present(rows, at, key) {
+        return Reply {
+            code: 1,
+            value: rows[at][1],
+        };
+    }
+    Reply { code: 0, value: 0 }
+}
+
+// What the operation replies.
+pub fn reply(rows: &[[u32; 2]; 64], count: usize, operation: Operation) -> Reply
+    requires { ⌜ count ≤ 64 ⌝ }
+    ensures { λ r. ⌜ told r ≡ replyOf operation (rowsOf (now (rows .entry)) count) ⌝ }
+{
+    let copy = &rows[..];
+    let live = &copy[..count];
+    let number = operation.number;
+    let key = operation.key;
+    match number {
+        1 | 4 => Reply { code: 1, value: 0 },
+        2 | 3 => top(live),
+        5 | 6 | 8 | 11 => flag(contains(live, key)),
+        7 => flag(!contains(live, key)),
+        9 => lookup(live, key),
+        10 => Reply {
+            code: 1,
+            value: count as u32,
+        },
+        _ => Reply { code: 0, value: 0 },
+    }
+}

@@ -1,5 +1,0 @@
-pub mod Pairs
-pub mod Lists
-pub mod Positions
-pub mod Copies
-pub mod Numbers

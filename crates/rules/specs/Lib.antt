@@ -1,4 +1,0 @@
-pub mod Stored
-pub mod Pairs
-pub mod Replay
-pub mod Laws
