@@ -1,3 +1,4 @@
+-- `replay::flag`: the two ways out are the two replies.
 use Rattle.replay.proofs.flag.Statement.{statement}
 use Rattle.replay.proofs.flag.Tie as tie
 

@@ -1,3 +1,4 @@
+-- `replay::inserted`: where the key is there the copy is as it was, else a gap is opened at its position.
 use Prim.Native.Nat.{_≤_}
 use mathlib.Core.Path.{sym, _∙_}
 use native.Mathlib.Omega.{arith}
@@ -11,17 +12,8 @@ use Rattle.replay.proofs.inserted.Tie as tie
 fits : (c : tie.Start) → c .args .count ≤ length (c .args .t1)
 fits c = omega (arith, c .good .0 .1 .0 .1)
 
-array-share-prefix-rows : tie.Need-array-share-prefix-rows
-array-share-prefix-rows c = search needs
-
 slice-aggregate-live : tie.Need-slice-aggregate-live
 slice-aggregate-live c = sym (length-take-le _ _ (fits (c .before)))
-
-position-requires : tie.Need-position-requires
-position-requires c κs = search needs
-
-present-requires : tie.Need-present-requires
-present-requires c κs = search needs
 
 returns : tie.Need-returns
 returns c = inserted-kept _ _ (fits (c .before .before .before .before)) _ _ (c .before .before .position .ensures) _ (sym (c .before .present .ensures) ∙ c .if1 .taken)
@@ -36,10 +28,10 @@ pub inserted-spec : {M : Type 1} → statement M
 inserted-spec =
     tie.close
     (tie.spec
-    array-share-prefix-rows
+    (λ c. search needs)
     slice-aggregate-live
-    position-requires
-    present-requires
+    (λ c κs. search needs)
+    (λ c κs. search needs)
     returns
     opened-requires
     returns-2)

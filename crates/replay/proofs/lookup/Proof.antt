@@ -1,3 +1,4 @@
+-- `replay::lookup`: the value of the row at the position, where it has the key.
 use Prim.Native.Nat.{_<_}
 use mathlib.Core.Path.{sym, _∙_}
 use native.Mathlib.Omega.{arith}
@@ -10,20 +11,11 @@ use Rattle.replay.proofs.lookup.Tie as tie
 inside : (c : tie.Then1) → c .before .before .position .result < length (c .before .before .before .args .rows .now)
 inside c = found-within (c .before .before .before .args .key) (c .before .before .before .args .rows .now) _ (c .before .before .position .ensures) (sym (c .before .present .ensures) ∙ c .if1 .taken)
 
-position-requires : tie.Need-position-requires
-position-requires c κs = search needs
-
-present-requires : tie.Need-present-requires
-present-requires c κs = search needs
-
 mul-t5 : tie.Need-mul-t5
 mul-t5 c = omega (arith, inside c, c .before .before .before .good .0)
 
 index-1-t9 : tie.Need-index-1-t9
 index-1-t9 c = inside c
-
-index-2-t9 : tie.Need-index-2-t9
-index-2-t9 c = search needs
 
 returns : tie.Need-returns
 returns c = found-here (c .before .before .before .before .args .key) (c .before .before .before .before .args .rows .now) _ (c .before .before .before .position .ensures) (sym (c .before .before .present .ensures) ∙ c .before .if1 .taken)
@@ -34,4 +26,4 @@ returns-2 c = found-none (c .before .before .before .args .key) (c .before .befo
 pub lookup-spec : {M : Type 1} → statement M
 lookup-spec =
     tie.close
-    (tie.spec position-requires present-requires mul-t5 index-1-t9 index-2-t9 returns returns-2)
+    (tie.spec (λ c κs. search needs) (λ c κs. search needs) mul-t5 index-1-t9 (λ c. search needs) returns returns-2)

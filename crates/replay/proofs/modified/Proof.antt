@@ -1,3 +1,4 @@
+-- `replay::modified`: the row at the position is replaced where it has the key.
 use Prim.Native.Nat.{_<_, _≤_}
 use mathlib.Core.Path.{sym, _∙_}
 use native.Mathlib.Omega.{arith}
@@ -14,17 +15,8 @@ fits c = omega (arith, c .good .0 .1 .0 .1)
 inside : (c : tie.Then1) → c .before .before .position .result < c .before .before .before .before .args .count
 inside c = within _ _ (fits (c .before .before .before .before)) _ _ (c .before .before .position .ensures) (sym (c .before .present .ensures) ∙ c .if1 .taken)
 
-array-share-prefix-rows : tie.Need-array-share-prefix-rows
-array-share-prefix-rows c = search needs
-
 slice-aggregate-live : tie.Need-slice-aggregate-live
 slice-aggregate-live c = sym (length-take-le _ _ (fits (c .before)))
-
-position-requires : tie.Need-position-requires
-position-requires c κs = search needs
-
-present-requires : tie.Need-present-requires
-present-requires c κs = search needs
 
 mul-rows : tie.Need-mul-rows
 mul-rows c = omega (arith, inside c)
@@ -42,10 +34,10 @@ pub modified-spec : {M : Type 1} → statement M
 modified-spec =
     tie.close
     (tie.spec
-    array-share-prefix-rows
+    (λ c. search needs)
     slice-aggregate-live
-    position-requires
-    present-requires
+    (λ c κs. search needs)
+    (λ c κs. search needs)
     mul-rows
     array-set-from-rows
     returns

@@ -1,3 +1,4 @@
+-- `replay::next_count`: each arm counts as its operation does; every other number changes nothing.
 use Prim.Native.Nat.{_≤_}
 use mathlib.Core.Path.{sym, _∙_}
 use native.Mathlib.Omega.{arith}
@@ -14,21 +15,6 @@ fits c = omega (arith, c .copy .given .0)
 
 slice-aggregate-live : tie.Need-slice-aggregate-live
 slice-aggregate-live c = sym (length-take-le _ _ (fits (c .before)))
-
-add-result : tie.Need-add-result
-add-result c = search needs
-
-sub-result : tie.Need-sub-result
-sub-result c = search needs
-
-contains-requires : tie.Need-contains-requires
-contains-requires c κs = search needs
-
-add-result-2 : tie.Need-add-result-2
-add-result-2 c = search needs
-
-contains-requires-2 : tie.Need-contains-requires-2
-contains-requires-2 c κs = search needs
 
 sub-result-2 : tie.Need-sub-result-2
 sub-result-2 c = nonempty _ _ (fits (c .before .before .before .before)) _ (sym (c .before .contains2 .ensures) ∙ c .if3 .taken)
@@ -64,11 +50,11 @@ next-count-spec =
     tie.close
     (tie.spec
     slice-aggregate-live
-    add-result
-    sub-result
-    contains-requires
-    add-result-2
-    contains-requires-2
+    (λ c. search needs)
+    (λ c. search needs)
+    (λ c κs. search needs)
+    (λ c. search needs)
+    (λ c κs. search needs)
     sub-result-2
     returns
     returns-2

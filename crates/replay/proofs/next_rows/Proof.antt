@@ -1,3 +1,4 @@
+-- `replay::next_rows`: each arm is its operation; every other number, a pop among them, leaves the copy as it was.
 use Prim.Native.Nat.{_≤_}
 use mathlib.Core.List.{List}
 use native.Mathlib.Omega.{arith}
@@ -25,14 +26,8 @@ opened-requires c κs = omega (arith, c .before .pre, count-push (c .before .arg
 inserted-requires : tie.Need-inserted-requires
 inserted-requires c κs = (c .before .pre .0, rw (next-set-insert (asked (c .before)) (live (c .before)) (c .match .keys2)) at (c .before .pre .1))
 
-deleted-requires : tie.Need-deleted-requires
-deleted-requires c κs = search needs
-
 inserted-requires-2 : tie.Need-inserted-requires-2
 inserted-requires-2 c κs = (c .before .pre .0, rw (next-table-insert (asked (c .before)) (live (c .before)) (c .match .keys4)) at (c .before .pre .1))
-
-modified-requires : tie.Need-modified-requires
-modified-requires c κs = search needs
 
 returns : tie.Need-returns
 returns c = push-holds (c .before .before .args .operation) _ _ (fits (c .before .before)) _ (c .before .match .keys1) (c .opened .ensures)
@@ -60,9 +55,9 @@ next-rows-spec =
     (tie.spec
     opened-requires
     inserted-requires
-    deleted-requires
+    (λ c κs. search needs)
     inserted-requires-2
-    modified-requires
+    (λ c κs. search needs)
     returns
     returns-2
     returns-3

@@ -19,24 +19,6 @@ abbrev μ-loop : tie.MeasureT-loop
 loop-holds : tie.Need-loop-holds Inv-loop μ-loop
 loop-holds c = (c .pre .0, c .good .0 .1 .0 .1, refl)
 
-mul-moved : tie.Need-mul-moved Inv-loop μ-loop
-mul-moved c = search needs
-
-array-copy-out-moved : tie.Need-array-copy-out-moved Inv-loop μ-loop
-array-copy-out-moved c = search needs
-
-mul-rows : tie.Need-mul-rows Inv-loop μ-loop
-mul-rows c = search needs
-
-array-set-from-rows : tie.Need-array-set-from-rows Inv-loop μ-loop
-array-set-from-rows c = search needs
-
-add-i : tie.Need-add-i Inv-loop μ-loop
-add-i c = search needs
-
-loop-less : tie.Need-loop-less Inv-loop μ-loop
-loop-less c = search needs
-
 loop-again : tie.Need-loop-again Inv-loop μ-loop
 loop-again c =
     let at-loop = c .before .before .loop in
@@ -45,12 +27,6 @@ loop-again c =
       simp length-set l,
       opened-turn _ _ _ [] (at-loop .i) (c .before .loop-test .taken) (omega arith) ∙ at-loop .inv .2,
     )
-
-mul-rows-2 : tie.Need-mul-rows-2 Inv-loop μ-loop
-mul-rows-2 c = search needs
-
-array-set-from-rows-2 : tie.Need-array-set-from-rows-2 Inv-loop μ-loop
-array-set-from-rows-2 c = search needs
 
 returns : tie.Need-returns Inv-loop μ-loop
 returns c =
@@ -66,13 +42,13 @@ opened-spec =
     Inv-loop
     μ-loop
     loop-holds
-    mul-moved
-    array-copy-out-moved
-    mul-rows
-    array-set-from-rows
-    add-i
-    loop-less
+    (λ c. search needs)
+    (λ c. search needs)
+    (λ c. search needs)
+    (λ c. search needs)
+    (λ c. search needs)
+    (λ c. search needs)
     loop-again
-    mul-rows-2
-    array-set-from-rows-2
+    (λ c. search needs)
+    (λ c. search needs)
     returns)

@@ -1,16 +1,8 @@
+-- `replay::present`: the row at the position decides.
 use borrow.Author.Needs.{needs}
 use Rattle.replay.specs.Laws.Copies.{present-here, present-past}
 use Rattle.replay.proofs.present.Statement.{statement}
 use Rattle.replay.proofs.present.Tie as tie
-
-mul-result : tie.Need-mul-result
-mul-result c = search needs
-
-index-1-result : tie.Need-index-1-result
-index-1-result c = search needs
-
-index-2-result : tie.Need-index-2-result
-index-2-result c = search needs
 
 returns : tie.Need-returns
 returns c = present-here (c .before .before .args .key) (c .before .before .args .rows .now) _ (c .before .before .pre) (c .before .if1 .taken)
@@ -19,4 +11,4 @@ returns-2 : tie.Need-returns-2
 returns-2 c = present-past (c .before .args .key) (c .before .args .rows .now) _ (c .before .pre) (c .if1 .left)
 
 pub present-spec : {M : Type 1} → statement M
-present-spec = tie.close (tie.spec mul-result index-1-result index-2-result returns returns-2)
+present-spec = tie.close (tie.spec (λ c. search needs) (λ c. search needs) (λ c. search needs) returns returns-2)

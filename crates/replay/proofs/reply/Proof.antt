@@ -1,3 +1,4 @@
+-- `replay::reply`: each arm is its operation's reply; `2 | 3` and `5 | 6` come as tests of a range.
 use Prim.Native.Nat.{_≤_}
 use mathlib.Core.Path.{ap, sym, _∙_}
 use mathlib.Core.Logic.{⊎-elim}
@@ -26,27 +27,6 @@ fits c = omega (arith, c .copy .given .0)
 
 slice-aggregate-live : tie.Need-slice-aggregate-live
 slice-aggregate-live c = sym (length-take-le _ _ (fits (c .before)))
-
-contains-requires : tie.Need-contains-requires
-contains-requires c κs = search needs
-
-flag-requires : tie.Need-flag-requires
-flag-requires c κs = search needs
-
-lookup-requires : tie.Need-lookup-requires
-lookup-requires c κs = search needs
-
-cast-t13 : tie.Need-cast-t13
-cast-t13 c = search needs
-
-top-requires : tie.Need-top-requires
-top-requires c κs = search needs
-
-contains-requires-2 : tie.Need-contains-requires-2
-contains-requires-2 c κs = search needs
-
-flag-requires-2 : tie.Need-flag-requires-2
-flag-requires-2 c κs = search needs
 
 returns : tie.Need-returns
 returns c = reply-done (asked (c .before .before .before)) (live (c .before .before .before)) (c .match .keys1)
@@ -92,13 +72,13 @@ reply-spec =
     tie.close
     (tie.spec
     slice-aggregate-live
-    contains-requires
-    flag-requires
-    lookup-requires
-    cast-t13
-    top-requires
-    contains-requires-2
-    flag-requires-2
+    (λ c κs. search needs)
+    (λ c κs. search needs)
+    (λ c κs. search needs)
+    (λ c. search needs)
+    (λ c κs. search needs)
+    (λ c κs. search needs)
+    (λ c κs. search needs)
     returns
     returns-2
     returns-3
