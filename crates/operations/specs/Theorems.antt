@@ -1,12 +1,13 @@
 -- What holds of the operations and the pair rules, for every kind of object, every operation and argument, every well-formed state of
 -- any size, and any key reduction.
-use Prim.Native.Nat.{ℕ, _^_, _<_}
+use Prim.Native.Nat.{ℕ, _+_, _*_, _^_, _<_}
 use mathlib.Core.Path.{_≡_, refl, ap}
 use mathlib.Core.Logic.{_↔_}
 use mathlib.Core.Bool.{Bool, true, false}
 use mathlib.Core.Option.{some}
 use mathlib.Core.List.{List}
-use Rattle.operations.specs.Operations.{Kind, Row, replied, valued, push, pop, TableOperation, onTable, onStack, Operation, kindOf, keyOf, reduceKey, stored, found, stackNext, stackReply, tableNext, next, reply, All, Ascending, WellFormed, Holdable, Fits}
+use native.Mathlib.Omega.{arith}
+use Rattle.operations.specs.Operations.{Kind, Row, replied, valued, push, pop, TableOperation, tableInsert, modify, onTable, onStack, Operation, kindOf, keyOf, reduceKey, stored, found, stackNext, stackReply, tableNext, next, reply, All, Ascending, WellFormed, Holdable, Fits}
 use Rattle.operations.specs.PairRules.{recoverable, commutes}
 use Rattle.operations.specs.Log.{Log, EntryFits, Recoverable, Commuting, Answered, after, only, others}
 use Rattle.operations.specs.Laws.Cases.{split}
@@ -24,9 +25,15 @@ pub stored-fits : (number k v : ℕ) (o : Operation) → stored reduceKey number
 unfolding reduceKey
 stored-fits number k v o e = (refl, stored-reduced reduceKey reduced-once refl number k v o e)
 
--- A stack's item is stored as it is.
-pub item-stored : (item v : ℕ) → stored reduceKey 1 item v ≡ some (onStack (push item))
-item-stored item v = refl
+-- The reduction drops the maker's mark and keeps the serial of 24 bits.
+pub mark-dropped : (mark serial : ℕ) → serial < 2 ^ 24 → reduceKey (mark * 2 ^ 24 + serial) ≡ serial
+unfolding reduceKey
+mark-dropped mark serial h = omega arith
+
+-- A stack's item and a table's value are stored as they are.
+pub stored-whole : (k v : ℕ) → (stored reduceKey 1 k v ≡ some (onStack (push k))) × (stored reduceKey 7 k v ≡ some (onTable (tableInsert (reduceKey k) v)))
+    × (stored reduceKey 11 k v ≡ some (onTable (modify (reduceKey k) v)))
+stored-whole k v = (refl, refl, refl)
 
 -- ---- Operations
 

@@ -1,12 +1,12 @@
--- Where the commuting tables say yes the recoverable tables do, both ways round: one test over each kind's table.
-use Prim.Native.Nat.{ℕ, zero, suc, _-_, _<_}
-use mathlib.Core.Path.{_≡_, refl, sym, ap, _∙_}
-use mathlib.Core.Bool.{Bool, true, false, not, _&&_, and-eq-true-iff, false≢true}
+-- The commuting tables by the recoverable ones, from one test over each kind's tables.
+use Prim.Native.Nat.{ℕ, zero, suc, _+_, _-_, _<_}
+use mathlib.Core.Path.{_≡_, refl, sym, _∙_}
+use mathlib.Core.Bool.{Bool, true, false, not, _&&_, _||_, Bool·beq, and-eq-true-iff}
 use native.Mathlib.Omega.{arith}
 use borrow.Author.Tests.{ne-eqb}
 use lib.Dec.{eqb}
 use Rattle.operations.specs.Operations.{Kind, Stack, Set, Table, push, pop, top, setInsert, setDelete, member, tableInsert, tableDelete, lookup, size, modify, Operation, onStack, onSet, onTable, kindOf, numberOf, keyOf}
-use Rattle.operations.specs.PairRules.{Rule, always, never, apart, allows, ruleAt, ruleFor, firstNumber, recoverableRules, commutingRules, recoverable, commutes}
+use Rattle.operations.specs.PairRules.{Rule, always, never, apart, allows, ruleAt, firstNumber, recoverableRules, commutingRules, recoverable, commutes}
 use Rattle.operations.specs.Laws.Cases.{by-key}
 
 -- ---- A test of every number below a bound
@@ -21,80 +21,94 @@ below-at (suc n) f e i h =
     let both : (f n ≡ true) × (below n f ≡ true) = and-eq-true-iff (f n) (below n f) .0 e in
     by-key (λ (j : ℕ). j < suc n → f j ≡ true) i n (λ h′. both .0) (λ ne h′. below-at n f (both .1) i (omega arith)) h
 
--- ---- Rules
+beq-true : (a b : Bool) → Bool·beq a b ≡ true → a ≡ b
+beq-true true true e = refl
+beq-true true false e = sym e
+beq-true false true e = e
+beq-true false false e = refl
 
--- where the first rule says yes, so does the second
-abbrev implies : Rule → Rule → Bool
-implies never r = true
-implies apart never = false
-implies apart apart = true
-implies apart always = true
-implies always never = false
-implies always apart = false
-implies always always = true
+-- ---- A rule where the keys differ or not
 
-implied : (c r : Rule) (o p : Operation) → implies c r ≡ true → allows c o p ≡ true → allows r o p ≡ true
-implied never r o p i e = absurd (false≢true e)
-implied apart never o p i e = absurd (false≢true i)
-implied apart apart o p i e = e
-implied apart always o p i e = refl
-implied always never o p i e = absurd (false≢true i)
-implied always apart o p i e = absurd (false≢true i)
-implied always always o p i e = refl
+abbrev says : Rule → Bool → Bool
+says always differ = true
+says never differ = false
+says apart differ = differ
 
-swapped : (r : Rule) (o p : Operation) → allows r o p ≡ allows r p o
-swapped never o p = refl
-swapped always o p = refl
-swapped apart o p =
-    ap not
-    (by-key (λ (k : ℕ). eqb k (keyOf p) ≡ eqb (keyOf p) k) (keyOf o) (keyOf p) refl
-    (λ n. ne-eqb (keyOf o) (keyOf p) n ∙ sym (ne-eqb (keyOf p) (keyOf o) (λ q. n (sym q)))))
+allows-says : (r : Rule) (o p : Operation) → allows r o p ≡ says r (not (eqb (keyOf o) (keyOf p)))
+allows-says always o p = refl
+allows-says never o p = refl
+allows-says apart o p = refl
+
+eqb-swap : (j k : ℕ) → eqb j k ≡ eqb k j
+eqb-swap j k = by-key (λ (i : ℕ). eqb i k ≡ eqb k i) j k refl (λ n. ne-eqb j k n ∙ sym (ne-eqb k j (λ q. n (sym q))))
 
 -- ---- The tables
+
+-- two pushes, or two modifies of one key
+abbrev overwriting : ℕ → ℕ → Bool → Bool
+overwriting requested logged differ =
+    (eqb requested 1 && eqb logged 1) || (eqb requested 11 && (eqb logged 11 && not differ))
+
+-- Two operations that write one place: two pushes, or two modifies of one key.
+abbrev pub overwrites : Operation → Operation → Bool
+overwrites o p = overwriting (numberOf o) (numberOf p) (not (eqb (keyOf o) (keyOf p)))
 
 abbrev operationCount : Kind → ℕ
 operationCount Stack = 3
 operationCount Set = 3
 operationCount Table = 5
 
-abbrev place : Operation → ℕ
-place o = numberOf o - firstNumber (kindOf o)
+place : (o : Operation) → (i : ℕ) × (i < operationCount (kindOf o)) × (numberOf o ≡ firstNumber (kindOf o) + i)
+place (onStack (push x)) = (0, omega arith, refl)
+place (onStack pop) = (1, omega arith, refl)
+place (onStack top) = (2, omega arith, refl)
+place (onSet (setInsert k)) = (0, omega arith, refl)
+place (onSet (setDelete k)) = (1, omega arith, refl)
+place (onSet (member k)) = (2, omega arith, refl)
+place (onTable (tableInsert k v)) = (0, omega arith, refl)
+place (onTable (tableDelete k)) = (1, omega arith, refl)
+place (onTable (lookup k)) = (2, omega arith, refl)
+place (onTable size) = (3, omega arith, refl)
+place (onTable (modify k v)) = (4, omega arith, refl)
 
-place-below : (o : Operation) → place o < operationCount (kindOf o)
-place-below (onStack (push x)) = omega arith
-place-below (onStack pop) = omega arith
-place-below (onStack top) = omega arith
-place-below (onSet (setInsert k)) = omega arith
-place-below (onSet (setDelete k)) = omega arith
-place-below (onSet (member k)) = omega arith
-place-below (onTable (tableInsert k v)) = omega arith
-place-below (onTable (tableDelete k)) = omega arith
-place-below (onTable (lookup k)) = omega arith
-place-below (onTable size) = omega arith
-place-below (onTable (modify k v)) = omega arith
+-- what the recoverable tables make of the places a and b
+abbrev mutual-at : Kind → ℕ → ℕ → Bool → Bool
+mutual-at kind a b differ =
+    says (ruleAt (recoverableRules kind) a b) differ
+    && (says (ruleAt (recoverableRules kind) b a) differ && not (overwriting (firstNumber kind + a) (firstNumber kind + b) differ))
 
-abbrev implied-at : Kind → ℕ → ℕ → Bool
-implied-at kind a b =
-    implies (ruleAt (commutingRules kind) a b) (ruleAt (recoverableRules kind) a b)
-    && implies (ruleAt (commutingRules kind) a b) (ruleAt (recoverableRules kind) b a)
+abbrev agree-at : Kind → Bool → ℕ → ℕ → Bool
+agree-at kind differ a b = Bool·beq (says (ruleAt (commutingRules kind) a b) differ) (mutual-at kind a b differ)
 
-abbrev implied-in : Kind → ℕ → Bool
-implied-in kind a = below (operationCount kind) (implied-at kind a)
+abbrev agree-in : Kind → Bool → ℕ → Bool
+agree-in kind differ a = below (operationCount kind) (agree-at kind differ a)
 
-every-cell : (kind : Kind) → below (operationCount kind) (implied-in kind) ≡ true
-every-cell Stack = refl
-every-cell Set = refl
-every-cell Table = refl
+every-cell : (kind : Kind) (differ : Bool) → below (operationCount kind) (agree-in kind differ) ≡ true
+every-cell Stack true = refl
+every-cell Stack false = refl
+every-cell Set true = refl
+every-cell Set false = refl
+every-cell Table true = refl
+every-cell Table false = refl
 
-cell : (kind : Kind) (a b : ℕ) → a < operationCount kind → b < operationCount kind → implied-at kind a b ≡ true
-cell kind a b ha hb = below-at (operationCount kind) (implied-at kind a) (below-at (operationCount kind) (implied-in kind) (every-cell kind) a ha) b hb
+cell : (kind : Kind) (differ : Bool) (a b : ℕ) → a < operationCount kind → b < operationCount kind
+    → says (ruleAt (commutingRules kind) a b) differ ≡ mutual-at kind a b differ
+cell kind differ a b ha hb =
+    beq-true (says (ruleAt (commutingRules kind) a b) differ) (mutual-at kind a b differ)
+    (below-at (operationCount kind) (agree-at kind differ a) (below-at (operationCount kind) (agree-in kind differ) (every-cell kind differ) a ha) b hb)
 
-pub commuting-recoverable : (o p : Operation) → kindOf p ≡ kindOf o → commutes o p ≡ true → (recoverable o p ≡ true) × (recoverable p o ≡ true)
-commuting-recoverable o p k e =
-    let c : Rule = ruleFor commutingRules o p in
-    let r : Rule = ruleFor recoverableRules o p in
-    let q : Rule = ruleAt (recoverableRules (kindOf o)) (numberOf p - firstNumber (kindOf o)) (place o) in
-    let both : (implies c r ≡ true) × (implies c q ≡ true) =
-    and-eq-true-iff (implies c r) (implies c q) .0
-    (cell (kindOf o) (place o) (numberOf p - firstNumber (kindOf o)) (place-below o) (rw k at (place-below p))) in
-    (implied c r o p (both .0) e, rw k (swapped q p o ∙ implied c q o p (both .1) e))
+at-numbers : (kind : Kind) (o p : Operation) (a b n m : ℕ) → a < operationCount kind → b < operationCount kind → n ≡ firstNumber kind + a → m ≡ firstNumber kind + b
+    → allows (ruleAt (commutingRules kind) (n - firstNumber kind) (m - firstNumber kind)) o p
+    ≡ (allows (ruleAt (recoverableRules kind) (n - firstNumber kind) (m - firstNumber kind)) o p
+    && (allows (ruleAt (recoverableRules kind) (m - firstNumber kind) (n - firstNumber kind)) p o && not (overwriting n m (not (eqb (keyOf o) (keyOf p))))))
+at-numbers kind o p a b n m ha hb en em =
+    let row : n - firstNumber kind ≡ a = omega arith in
+    let column : m - firstNumber kind ≡ b = omega arith in
+    rw (row, column, en, em, allows-says (ruleAt (commutingRules kind) a b) o p, allows-says (ruleAt (recoverableRules kind) a b) o p, allows-says (ruleAt (recoverableRules kind) b a) p o, eqb-swap (keyOf p) (keyOf o))
+    (cell kind (not (eqb (keyOf o) (keyOf p))) a b ha hb)
+
+-- Two operations commute where each is recoverable against the other, unless they write one place.
+pub commuting-mutual : (o p : Operation) → kindOf p ≡ kindOf o → commutes o p ≡ (recoverable o p && (recoverable p o && not (overwrites o p)))
+commuting-mutual o p k =
+    rw k
+    (at-numbers (kindOf o) o p (place o .0) (place p .0) (numberOf o) (numberOf p) (place o .1) (rw k at (place p .1)) (place o .2) (rw k at (place p .2)))

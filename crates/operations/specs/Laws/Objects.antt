@@ -1,7 +1,7 @@
 -- Stacks, sets and tables are object types: the laws of `Log`, for an object of each kind.
 use Prim.Native.Nat.{ℕ}
 use mathlib.Core.Path.{_≡_, sym, ap, _∙_, subst}
-use mathlib.Core.Bool.{true}
+use mathlib.Core.Bool.{true, not, _&&_, and-eq-true-iff}
 use mathlib.Core.List.{List}
 use native.Mathlib.Omega.{arith}
 use Rattle.operations.specs.Operations.{Kind, Stack, Set, Table, Row, Reply, StackOperation, SetOperation, TableOperation, Operation, onStack, onSet, onTable, kindOf, next, reply, WellFormed, StoredKey, Fits}
@@ -9,7 +9,7 @@ use Rattle.operations.specs.PairRules.{firstNumber, recoverable, commute
 use Rattle.operations.specs.Log.{ObjectType}
 use Rattle.operations.specs.Laws.Stacks.{StackView, stackView, stack-valid, stack-reply, stack-view-next, stack-view-recoverable, stack-commutes}
 use Rattle.operations.specs.Laws.Sets.{SetView, setView, set-values, set-reduced, set-ascending, set-reply, set-view-next, set-view-recoverable, set-commutes}
-use Rattle.operations.specs.Laws.Grid.{commuting-recoverable}
+use Rattle.operations.specs.Laws.Grid.{overwrites, commuting-mutual}
 use Rattle.operations.specs.Laws.Tables.{TableView, tableView, next-ascending, next-reduced, table-reply, table-view-next, table-view-recoverable, table-commutes}
 
 -- ---- By the kind of one operation, and of two
@@ -87,7 +87,11 @@ module _ (reduce : ℕ → ℕ) (kind : Kind) where
         (λ q r v. stack-commutes q r s) (λ q r v. set-commutes q r s (v .2)) (λ q r v. table-commutes q r s (v .1)) kind o p (f .0) (g .0)
 
     pub recoverable-commutes : Fits reduce kind o → Fits reduce kind p → commutes o p ≡ true → (recoverable o p ≡ true) × (recoverable p o ≡ true)
-    recoverable-commutes f g e = commuting-recoverable o p (g .0 ∙ sym (f .0)) e
+    recoverable-commutes f g e =
+        let all : (recoverable o p && (recoverable p o && not (overwrites o p))) ≡ true = sym (commuting-mutual o p (g .0 ∙ sym (f .0))) ∙ e in
+        let parts : (recoverable o p ≡ true) × ((recoverable p o && not (overwrites o p)) ≡ true) =
+        and-eq-true-iff (recoverable o p) (recoverable p o && not (overwrites o p)) .0 all in
+        (parts .0, and-eq-true-iff (recoverable p o) (not (overwrites o p)) .0 (parts .1) .0)
 
   -- A stack, set or table as an object type; `reduce` is the key reduction in force.
   abbrev pub object : ObjectType
