@@ -1,1 +1,2 @@
 pub mod Bitset
+pub mod Laws

@@ -1,11 +1,11 @@
-// Document 01, "Whom a handout depends on is a set of 64 bits": sets of transactions, which it calls handouts.
+// Sets of 64 transactions (document 01: "a set of 64 bits" of handouts).
 ghost use mathlib.Core.Path.{_≡_};
 ghost use mathlib.Core.Bool.{_&&_, _||_};
 ghost use Prim.Native.Nat.{_<_};
 ghost use lib.Dec.{eqb};
 ghost use Rattle.bitset.specs.Bitset.{has, Members};
 
-// The set of one transaction, from which larger sets are joined.
+// The set of one transaction.
 pub fn single(transaction: u32) -> u64
     requires { ⌜ transaction < 64 ⌝ }
     ensures { λ r. ⌜ Members r (λ h. eqb h transaction) ⌝ }
@@ -13,21 +13,21 @@ pub fn single(transaction: u32) -> u64
     1u64 << transaction
 }
 
-// The union, which gathers dependencies as they are found.
+// The union.
 pub fn join(a: u64, b: u64) -> u64
     ensures { λ r. ⌜ Members r (λ h. has a h || has b h) ⌝ }
 {
     a | b
 }
 
-// The intersection, which keeps the cycle test to pseudo-committed transactions.
+// The intersection.
 pub fn meet(a: u64, b: u64) -> u64
     ensures { λ r. ⌜ Members r (λ h. has a h && has b h) ⌝ }
 {
     a & b
 }
 
-// Whether a transaction is a member, as the cycle test asks of the one that finishes.
+// Whether the transaction is a member.
 pub fn contains(set: u64, transaction: u32) -> bool
     requires { ⌜ transaction < 64 ⌝ }
     ensures { λ r. ⌜ r ≡ has set transaction ⌝ }

@@ -31,7 +31,7 @@ pub record ObjectType : Type 1 where
   pub recoverable-commutes : (o p : Operation) → Fits o → Fits p → commutes o p ≡ true
       → (recoverable o p ≡ true) × (recoverable p o ≡ true)
 
--- A log entry: whose it is, what was asked and the answer that was given.
+-- A log entry: the transaction (document 01's handout) that it is of, what was asked and the answer that was given.
 pub record Entry (Operation Reply : Type 0) : Type 0 where
   pub transaction : ℕ
   pub operation : Operation
@@ -77,7 +77,7 @@ module _ (X : ObjectType) where
   abbrev pub PassesBefore : (ℕ → Bool) → Entry Operation Reply → Entry Operation Reply → Type 0
   PassesBefore picked e x = picked (x .transaction) ≡ true → picked (e .transaction) ≡ false → commutes (x .operation) (e .operation) ≡ true
 
-  -- Each entry of the picked transactions commutes with every earlier entry of another.
+  -- Each entry of a picked transaction commutes with every earlier entry of one that is not picked.
   abbrev pub Commuting : (ℕ → Bool) → Log → Type 0
   Commuting picked [] = Unit {0}
   Commuting picked (e ∷ l) = All (PassesBefore picked e) l × Commuting picked l

@@ -94,6 +94,12 @@ firstNumber Stack = 1
 firstNumber Set = 4
 firstNumber Table = 7
 
+-- The number of its last.
+abbrev pub lastNumber : Kind → ℕ
+lastNumber Stack = 3
+lastNumber Set = 6
+lastNumber Table = 11
+
 -- The entry at a row and a column, counted from 0.
 abbrev pub ruleAt : Rules → ℕ → ℕ → Rule
 ruleAt rules requested logged = getD (getD rules requested []) logged never
@@ -103,8 +109,12 @@ abbrev pub ruleFor : (Kind → Rules) → Operation → Operation → Rule
 ruleFor rules requested logged =
     ruleAt (rules (kindOf requested)) (numberOf requested - firstNumber (kindOf requested)) (numberOf logged - firstNumber (kindOf requested))
 
+-- The relation that tables of the three kinds define.
+abbrev pub related : (Kind → Rules) → Operation → Operation → Bool
+related rules requested logged = allows (ruleFor rules requested logged) requested logged
+
 abbrev pub recoverable : Operation → Operation → Bool
-recoverable requested logged = allows (ruleFor recoverableRules requested logged) requested logged
+recoverable = related recoverableRules
 
 abbrev pub commutes : Operation → Operation → Bool
-commutes requested logged = allows (ruleFor commutingRules requested logged) requested logged
+commutes = related commutingRules

@@ -17,7 +17,7 @@ replies [] rs = []
 replies (none ∷ l) rs = replies l rs
 replies (some o ∷ l) rs = reply o rs ∷ replies l (next o rs)
 
-pub samples : (v : ℕ)
+pub samples : (v w : ℕ)
     -- P1: pop of an empty stack
     → (replies (asked 2 0 0 ∷ []) [] ≡ replied 0 0 ∷ [])
     -- P2: push 7, top
@@ -39,7 +39,7 @@ pub samples : (v : ℕ)
     × (recoverable (onTable (lookup 5)) (onTable (modify 6 v)) ≡ true)
     × (recoverable (onTable (lookup 5)) (onTable (modify 5 v)) ≡ false)
     -- P10: push against push: recoverable, not commuting
-    × (recoverable (onStack (push v)) (onStack (push v)) ≡ true)
-    × (commutes (onStack (push v)) (onStack (push v)) ≡ false)
+    × (recoverable (onStack (push v)) (onStack (push w)) ≡ true)
+    × (commutes (onStack (push v)) (onStack (push w)) ≡ false)
 unfolding reduceKey byOrder
-samples v = (refl, refl, refl, refl, refl, refl, refl, refl, refl, refl, refl, refl, refl)
+samples v w = (refl, refl, refl, refl, refl, refl, refl, refl, refl, refl, refl, refl, refl)

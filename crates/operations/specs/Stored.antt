@@ -8,5 +8,5 @@ use Rattle.operations.specs.declared.Reply.{Reply}
 abbrev pub operationOf : Operation → Option model.Operation
 operationOf o = model.stored (λ k. k) (o .number) (o .key) (o .value)
 
-abbrev pub told : Reply → model.Reply
-told r = model.replied (r .code) (r .value)
+abbrev pub asReply : Reply → model.Reply
+asReply r = model.replied (r .code) (r .value)

@@ -3,37 +3,39 @@
 use Prim.Native.Nat.{ℕ, _+_, _*_, _^_, _<_}
 use mathlib.Core.Path.{_≡_, refl, ap}
 use mathlib.Core.Logic.{_↔_}
-use mathlib.Core.Bool.{Bool, true, false}
+use mathlib.Core.Bool.{Bool, true, false, not}
 use mathlib.Core.Option.{some}
-use mathlib.Core.List.{List}
+use mathlib.Core.List.{List, [], _∷_, map}
 use native.Mathlib.Omega.{arith}
-use Rattle.operations.specs.Operations.{Kind, Row, replied, valued, push, pop, TableOperation, tableInsert, modify, onTable, onStack, Operation, kindOf, keyOf, reduceKey, stored, found, stackNext, stackReply, tableNext, next, reply, All, Ascending, WellFormed, Holdable, Fits}
+use Rattle.operations.specs.Operations.{Kind, Row, replied, flag, valued, push, pop, setInsert, setDelete, member, TableOperation, tableInsert, tableDelete, lookup, modify, onTable, Operation, kindOf, numberOf, keyOf, valueOf, reduceKey, numbered, stored, found, present, stackNext, stackReply, setNext, setReply, tableNext, tableReply, next, reply, All, Ascending, WellFormed, Holdable, Fits}
 use Rattle.operations.specs.PairRules.{recoverable, commutes}
 use Rattle.operations.specs.Log.{Log, EntryFits, Recoverable, Commuting, Answered, after, only, others}
 use Rattle.operations.specs.Laws.Cases.{split}
 use Rattle.operations.specs.Laws.Storing.{stored-reduced, reduced-once}
 use Rattle.operations.specs.Laws.Stacks.{top-of-pushed, popped-of-pushed}
-use Rattle.operations.specs.Laws.Tables.{change, found-own, found-other}
+use Rattle.operations.specs.Laws.Tables.{change, found-own, found-other, present-own}
 use Rattle.operations.specs.Laws.Objects.{object}
 use Rattle.operations.specs.Laws.Witnesses.{witness, witness-valid, witness-holdable, witness-differs}
 use Rattle.operations.specs.Laws.Recoverability as recoverability
 
 -- ---- Arguments as stored
 
--- What a call stores is an operation of its kind with a reduced key.
+-- Operations 1 to 11: of each its number, its key or item, and its value. Unused arguments are 0.
+pub stored-table : (reduce : ℕ → ℕ) (k v : ℕ)
+    → (map numberOf (numbered reduce k v) ≡ 1 ∷ 2 ∷ 3 ∷ 4 ∷ 5 ∷ 6 ∷ 7 ∷ 8 ∷ 9 ∷ 10 ∷ 11 ∷ [])
+    × (map keyOf (numbered reduce k v) ≡ k ∷ 0 ∷ 0 ∷ reduce k ∷ reduce k ∷ reduce k ∷ reduce k ∷ reduce k ∷ reduce k ∷ 0 ∷ reduce k ∷ [])
+    × (map valueOf (numbered reduce k v) ≡ 0 ∷ 0 ∷ 0 ∷ 0 ∷ 0 ∷ 0 ∷ v ∷ 0 ∷ 0 ∷ 0 ∷ v ∷ [])
+stored-table reduce k v = (refl, refl, refl)
+
+-- The reduction keeps the low 24 bits.
+pub low-bits-kept : (high low : ℕ) → low < 2 ^ 24 → reduceKey (high * 2 ^ 24 + low) ≡ low
+unfolding reduceKey
+low-bits-kept high low h = omega arith
+
+-- What a call stores meets the premise of the theorems below: its key is reduced.
 pub stored-fits : (number k v : ℕ) (o : Operation) → stored reduceKey number k v ≡ some o → Fits reduceKey (kindOf o) o
 unfolding reduceKey
 stored-fits number k v o e = (refl, stored-reduced reduceKey reduced-once refl number k v o e)
-
--- The reduction drops the maker's mark and keeps the serial of 24 bits.
-pub mark-dropped : (mark serial : ℕ) → serial < 2 ^ 24 → reduceKey (mark * 2 ^ 24 + serial) ≡ serial
-unfolding reduceKey
-mark-dropped mark serial h = omega arith
-
--- A stack's item and a table's value are stored as they are.
-pub stored-whole : (k v : ℕ) → (stored reduceKey 1 k v ≡ some (onStack (push k))) × (stored reduceKey 7 k v ≡ some (onTable (tableInsert (reduceKey k) v)))
-    × (stored reduceKey 11 k v ≡ some (onTable (modify (reduceKey k) v)))
-stored-whole k v = (refl, refl, refl)
 
 -- ---- Operations
 
@@ -46,6 +48,24 @@ pub own-key-only : (o : TableOperation) (rs : List Row) → Ascending rs
     → (found (keyOf (onTable o)) (tableNext o rs) ≡ change o (found (keyOf (onTable o)) rs))
     × ((k : ℕ) → (k ≡ keyOf (onTable o) → ⊥) → found k (tableNext o rs) ≡ found k rs)
 own-key-only o rs a = (found-own o rs a, found-other o rs a)
+
+-- What a set or a table replies of a key that was just inserted, and of one that was just deleted.
+pub replies-after-insert : (k v w : ℕ) (rs : List Row) → Ascending rs
+    → (setReply (member k) (setNext (setInsert k) rs) ≡ replied 1 0) × (setReply (setDelete k) (setNext (setInsert k) rs) ≡ replied 1 0)
+    × (tableReply (tableInsert k w) (tableNext (tableInsert k v) rs) ≡ replied 0 0) × (tableReply (tableDelete k) (tableNext (tableInsert k v) rs) ≡ replied 1 0)
+    × (tableReply (modify k w) (tableNext (tableInsert k v) rs) ≡ replied 1 0)
+replies-after-insert k v w rs a =
+    let set : present k (setNext (setInsert k) rs) ≡ true = present-own (tableInsert k 0) rs a in
+    let table : present k (tableNext (tableInsert k v) rs) ≡ true = present-own (tableInsert k v) rs a in
+    (ap flag set, ap flag set, ap (λ (b : Bool). flag (not b)) table, ap flag table, ap flag table)
+
+pub replies-after-delete : (k w : ℕ) (rs : List Row) → Ascending rs
+    → (setReply (member k) (setNext (setDelete k) rs) ≡ replied 0 0) × (setReply (setDelete k) (setNext (setDelete k) rs) ≡ replied 0 0)
+    × (tableReply (tableInsert k w) (tableNext (tableDelete k) rs) ≡ replied 1 0) × (tableReply (tableDelete k) (tableNext (tableDelete k) rs) ≡ replied 0 0)
+    × (tableReply (lookup k) (tableNext (tableDelete k) rs) ≡ replied 0 0) × (tableReply (modify k w) (tableNext (tableDelete k) rs) ≡ replied 0 0)
+replies-after-delete k w rs a =
+    let gone : present k (tableNext (tableDelete k) rs) ≡ false = present-own (tableDelete k) rs a in
+    (ap flag gone, ap flag gone, ap (λ (b : Bool). flag (not b)) gone, ap flag gone, ap valued (found-own (tableDelete k) rs a), ap flag gone)
 
 module _ (reduce : ℕ → ℕ) (kind : Kind) where
   -- ---- Pairs of a requested operation o and a logged operation p
@@ -78,8 +98,8 @@ module _ (reduce : ℕ → ℕ) (kind : Kind) where
         → Answered (object reduce kind) (only kept l) rs
     dropping kept r p = recoverability.dropping (object reduce kind) kept l rs v f r p
 
-    -- Where each entry of the transactions that commit commutes with every earlier entry of another, serving them first gives the
-    -- same rows and the same answers.
+    -- Where each entry of the transactions that commit commutes with every earlier entry of one that does not, serving them first
+    -- gives the same rows and the same answers.
     pub committing : (committed : ℕ → Bool) → Commuting (object reduce kind) committed l → Answered (object reduce kind) l rs
         → (after (object reduce kind) l rs ≡ after (object reduce kind) (only (others committed) l) (after (object reduce kind) (only committed l) rs))
         × Answered (object reduce kind) (only committed l) rs

@@ -7,9 +7,9 @@ use native.Mathlib.Nat.{not-suc-le-zero, le-of-suc-le-suc}
 use native.Mathlib.Omega.{arith}
 use lib.ListN.{getD, List·getD-map}
 use Rattle.operations.specs.Operations as model
-use Rattle.operations.specs.PairRules.{Rule, never, Rules, allows, ruleAt, ruleFor, firstNumber, recoverableRules, commutingRules}
+use Rattle.operations.specs.PairRules.{Rule, never, Rules, ruleAt, related, firstNumber, lastNumber, recoverableRules, commutingRules}
 use Rattle.operations.specs.declared.Operation.{Operation}
-use Rattle.pairs.specs.Pairs.{codeOf, codeAt, allowsKeys, lastNumber, OneKind, both, pairOf}
+use Rattle.pairs.specs.Pairs.{codeOf, codeAt, allowsKeys, OneKind, both, pairOf}
 
 -- Every look-up: the table of codes has the code of each rule. Outside it both say `never`, whose code is 0.
 pub code : (rules : Rules) (requested logged : ℕ) → getD (getD (map (map codeOf) rules) requested []) logged 0 ≡ codeAt rules requested logged
@@ -39,10 +39,6 @@ each zero P h zero l = h
 each zero P h (suc n) l = absurd (not-suc-le-zero l)
 each (suc last) P h zero l = h .0
 each (suc last) P h (suc n) l = each last (λ m. P (suc m)) (h .1) n (le-of-suc-le-suc l)
-
--- The relation that the tables of the kinds define.
-abbrev related : (model.Kind → Rules) → model.Operation → model.Operation → Bool
-related rules requested logged = allows (ruleFor rules requested logged) requested logged
 
 -- The stored keys decide at each pair of a kind: no pair is "apart" of which one operation has no key.
 abbrev pub Keyed : (model.Kind → Rules) → Type 0

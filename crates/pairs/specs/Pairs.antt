@@ -3,7 +3,7 @@ use Prim.Native.Nat.{ℕ, _≤_}
 use mathlib.Core.Bool.{Bool, false}
 use mathlib.Core.Option.{Option, none, some}
 use Rattle.operations.specs.Operations as model
-use Rattle.operations.specs.PairRules.{Rule, always, never, apart, Rules, allows, ruleAt, firstNumber}
+use Rattle.operations.specs.PairRules.{Rule, always, never, apart, Rules, allows, ruleAt, firstNumber, lastNumber}
 use Rattle.operations.specs.declared.Operation.{Operation}
 use Rattle.operations.specs.Stored.{operationOf}
 
@@ -19,12 +19,6 @@ codeAt rules requested logged = codeOf (ruleAt rules requested logged)
 -- A rule's test of two keys, as of two operations that have them.
 abbrev pub allowsKeys : Rule → ℕ → ℕ → Bool
 allowsKeys rule requested logged = allows rule (model.onSet (model.member requested)) (model.onSet (model.member logged))
-
--- The number of a kind's last operation.
-abbrev pub lastNumber : model.Kind → ℕ
-lastNumber model.Stack = 3
-lastNumber model.Set = 6
-lastNumber model.Table = 11
 
 abbrev pub OfKind : model.Kind → Operation → Type 0
 OfKind kind o = (firstNumber kind ≤ o .number) × (o .number ≤ lastNumber kind)

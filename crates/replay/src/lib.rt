@@ -6,7 +6,7 @@ ghost use mathlib.Core.List.{map};
 ghost use Prim.Native.Nat.{_+_, _-_, _<_, _≤_};
 ghost use lib.ListN.{length, take};
 ghost use Rattle.operations.specs.Operations.{flag as Flag, valued, topItem, found, present as Present, inserted as Inserted, deleted as Deleted, modified as Modified};
-ghost use Rattle.operations.specs.Stored.{told};
+ghost use Rattle.operations.specs.Stored.{asReply};
 ghost use Rattle.replay.specs.Replay.{nextOf, replyOf, rowOf, rowsOf, Holds, positionOf, putAt, removedAt};
 
 // The place of the first key that is not below `key`, or the number of rows.
@@ -78,9 +78,9 @@ fn inserted(rows: [[u32; 2]; 64], count: usize, key: u32, value: u32) -> [[u32; 
     requires { ⌜ (count ≤ 64) × (length (Inserted key value (rowsOf rows count)) ≤ 64) ⌝ }
     ensures { λ r. ⌜ Holds r (Inserted key value (rowsOf rows count)) ⌝ }
 {
-    let live = &rows[..count];
-    let at = position(live, key);
-    if present(live, at, key) {
+    let filled = &rows[..count];
+    let at = position(filled, key);
+    if present(filled, at, key) {
         return rows;
     }
     opened(rows, count, at, [key, value])
@@ -90,9 +90,9 @@ fn deleted(rows: [[u32; 2]; 64], count: usize, key: u32) -> [[u32; 2]; 64]
     requires { ⌜ count ≤ 64 ⌝ }
     ensures { λ r. ⌜ Holds r (Deleted key (rowsOf rows count)) ⌝ }
 {
-    let live = &rows[..count];
-    let at = position(live, key);
-    if present(live, at, key) {
+    let filled = &rows[..count];
+    let at = position(filled, key);
+    if present(filled, at, key) {
         return closed(rows, count, at);
     }
     rows
@@ -103,15 +103,15 @@ fn modified(rows: [[u32; 2]; 64], count: usize, key: u32, value: u32) -> [[u32; 
     ensures { λ r. ⌜ Holds r (Modified key value (rowsOf rows count)) ⌝ }
 {
     let mut rows = rows;
-    let live = &rows[..count];
-    let at = position(live, key);
-    if present(live, at, key) {
+    let filled = &rows[..count];
+    let at = position(filled, key);
+    if present(filled, at, key) {
         rows[at] = [key, value];
     }
     rows
 }
 
-// The rows after the operation, which the copy has room for. A pop only lowers the count.
+// The rows after the operation, which the copy has room for. Pairs past the new count are left free: a pop only lowers the count.
 pub fn next_rows(rows: [[u32; 2]; 64], count: usize, operation: Operation) -> [[u32; 2]; 64]
     requires { ⌜ (count ≤ 64) × (length (nextOf operation (rowsOf rows count)) ≤ 64) ⌝ }
     ensures { λ r. ⌜ rowsOf r (length (nextOf operation (rowsOf rows count))) ≡ nextOf operation (rowsOf rows count) ⌝ }
@@ -133,19 +133,19 @@ pub fn next_count(rows: &[[u32; 2]; 64], count: usize, operation: Operation) -> 
     requires { ⌜ count ≤ 64 ⌝ }
     ensures { λ r. ⌜ r ≡ length (nextOf operation (rowsOf (now (rows .entry)) count)) ⌝ }
 {
-    let copy = &rows[..];
-    let live = &copy[..count];
+    let whole = &rows[..];
+    let filled = &whole[..count];
     let number = operation.number;
     let key = operation.key;
     match number {
         1 => count + 1,
         2 => if count == 0 { 0 } else { count - 1 },
-        4 | 7 => if contains(live, key) {
+        4 | 7 => if contains(filled, key) {
             count
         } else {
             count + 1
         },
-        5 | 8 => if contains(live, key) {
+        5 | 8 => if contains(filled, key) {
             count - 1
         } else {
             count
@@ -156,7 +156,7 @@ pub fn next_count(rows: &[[u32; 2]; 64], count: usize, operation: Operation) -> 
 
 // `1 0` or `0 0`.
 fn flag(b: bool) -> Reply
-    ensures { λ r. ⌜ told r ≡ Flag b ⌝ }
+    ensures { λ r. ⌜ asReply r ≡ Flag b ⌝ }
 {
     if b {
         return Reply { code: 1, value: 0 };
@@ -165,7 +165,7 @@ fn flag(b: bool) -> Reply
 }
 
 fn top(rows: &[[u32; 2]]) -> Reply
-    ensures { λ r. ⌜ told r ≡ valued (topItem (map rowOf (now (rows .entry)))) ⌝ }
+    ensures { λ r. ⌜ asReply r ≡ valued (topItem (map rowOf (now (rows .entry)))) ⌝ }
 {
     let count = rows.len();
     if count == 0 {
@@ -178,7 +178,7 @@ fn top(rows: &[[u32; 2]]) -> Reply
 }
 
 fn lookup(rows: &[[u32; 2]], key: u32) -> Reply
-    ensures { λ r. ⌜ told r ≡ valued (found key (map rowOf (now (rows .entry)))) ⌝ }
+    ensures { λ r. ⌜ asReply r ≡ valued (found key (map rowOf (now (rows .entry)))) ⌝ }
 {
     let at = position(rows, key);
     if present(rows, at, key) {
@@ -193,18 +193,18 @@ fn lookup(rows: &[[u32; 2]], key: u32) -> Reply
 // What the operation replies.
 pub fn reply(rows: &[[u32; 2]; 64], count: usize, operation: Operation) -> Reply
     requires { ⌜ count ≤ 64 ⌝ }
-    ensures { λ r. ⌜ told r ≡ replyOf operation (rowsOf (now (rows .entry)) count) ⌝ }
+    ensures { λ r. ⌜ asReply r ≡ replyOf operation (rowsOf (now (rows .entry)) count) ⌝ }
 {
-    let copy = &rows[..];
-    let live = &copy[..count];
+    let whole = &rows[..];
+    let filled = &whole[..count];
     let number = operation.number;
     let key = operation.key;
     match number {
         1 | 4 => Reply { code: 1, value: 0 },
-        2 | 3 => top(live),
-        5 | 6 | 8 | 11 => flag(contains(live, key)),
-        7 => flag(!contains(live, key)),
-        9 => lookup(live, key),
+        2 | 3 => top(filled),
+        5 | 6 | 8 | 11 => flag(contains(filled, key)),
+        7 => flag(!contains(filled, key)),
+        9 => lookup(filled, key),
         10 => Reply {
             code: 1,
             value: count as u32,

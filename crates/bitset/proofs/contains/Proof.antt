@@ -1,6 +1,6 @@
 -- `bitset::contains` meets its contract.
 use borrow.Author.Needs.{needs}
-use Rattle.bitset.proofs.Laws.{tested}
+use Rattle.bitset.specs.Laws.{tested}
 use Rattle.bitset.proofs.contains.Statement.{statement}
 use Rattle.bitset.proofs.contains.Tie as tie
 

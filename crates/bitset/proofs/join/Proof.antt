@@ -1,5 +1,5 @@
 -- `bitset::join` meets its contract.
-use Rattle.bitset.proofs.Laws.{joined}
+use Rattle.bitset.specs.Laws.{joined}
 use Rattle.bitset.proofs.join.Statement.{statement}
 use Rattle.bitset.proofs.join.Tie as tie
 

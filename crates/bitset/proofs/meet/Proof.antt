@@ -1,5 +1,5 @@
 -- `bitset::meet` meets its contract.
-use Rattle.bitset.proofs.Laws.{met}
+use Rattle.bitset.specs.Laws.{met}
 use Rattle.bitset.proofs.meet.Statement.{statement}
 use Rattle.bitset.proofs.meet.Tie as tie
 

@@ -1,6 +1,6 @@
 -- `bitset::single` meets its contract.
 use borrow.Author.Needs.{needs}
-use Rattle.bitset.proofs.Laws.{shifted}
+use Rattle.bitset.specs.Laws.{shifted}
 use Rattle.bitset.proofs.single.Statement.{statement}
 use Rattle.bitset.proofs.single.Tie as tie
 

@@ -1,4 +1,4 @@
--- Case analysis on a test and on a key, and laws of `All`.
+-- Case analysis on a test, on two numbers and on a key, and laws of `All`.
 use Prim.Native.Nat.{ℕ}
 use mathlib.Core.Path.{_≡_, refl, sym, subst}
 use mathlib.Core.Bool.{Bool, true, false}
@@ -11,10 +11,13 @@ pub split : {A : Type 0} (b : Bool) → (b ≡ true → A) → (b ≡ false → 
 split true f g = f refl
 split false f g = g refl
 
+pub same : {A : Type 0} (j k : ℕ) → (j ≡ k → A) → ((j ≡ k → ⊥) → A) → A
+same j k equal other =
+    split (eqb j k) (λ (e : eqb j k ≡ true). equal (eqb-true j k e)) (λ (e : eqb j k ≡ false). other (eqb-false j k e))
+
 -- a key is k, or apart from it
 pub by-key : (P : ℕ → Type 0) (j k : ℕ) → P k → ((j ≡ k → ⊥) → P j) → P j
-by-key P j k own other =
-    split (eqb j k) (λ (e : eqb j k ≡ true). subst P (sym (eqb-true j k e)) own) (λ (e : eqb j k ≡ false). other (eqb-false j k e))
+by-key P j k own other = same j k (λ e. subst P (sym e) own) other
 
 module _ {A : Type 0} where
   pub all-map : {P Q : A → Type 0} → ((x : A) → P x → Q x) → (l : List A) → All P l → All Q l

@@ -6,7 +6,7 @@ use native.Mathlib.Omega.{arith}
 use borrow.Author.Tests.{ne-eqb}
 use lib.Dec.{eqb}
 use Rattle.operations.specs.Operations.{Kind, Stack, Set, Table, push, pop, top, setInsert, setDelete, member, tableInsert, tableDelete, lookup, size, modify, Operation, onStack, onSet, onTable, kindOf, numberOf, keyOf}
-use Rattle.operations.specs.PairRules.{Rule, always, never, apart, allows, ruleAt, firstNumber, recoverableRules, commutingRules, recoverable, commutes}
+use Rattle.operations.specs.PairRules.{Rule, always, never, apart, allows, ruleAt, firstNumber, lastNumber, recoverableRules, commutingRules, recoverable, commutes}
 use Rattle.operations.specs.Laws.Cases.{by-key}
 
 -- ---- A test of every number below a bound
@@ -44,19 +44,16 @@ eqb-swap j k = by-key (λ (i : ℕ). eqb i k ≡ eqb k i) j k refl (λ n. ne-eqb
 
 -- ---- The tables
 
--- two pushes, or two modifies of one key
-abbrev overwriting : ℕ → ℕ → Bool → Bool
-overwriting requested logged differ =
+abbrev rewriting : ℕ → ℕ → Bool → Bool
+rewriting requested logged differ =
     (eqb requested 1 && eqb logged 1) || (eqb requested 11 && (eqb logged 11 && not differ))
 
--- Two operations that write one place: two pushes, or two modifies of one key.
-abbrev pub overwrites : Operation → Operation → Bool
-overwrites o p = overwriting (numberOf o) (numberOf p) (not (eqb (keyOf o) (keyOf p)))
+-- Two pushes, or two modifies of one key: each is recoverable against the other, and the order shows.
+abbrev pub rewrites : Operation → Operation → Bool
+rewrites o p = rewriting (numberOf o) (numberOf p) (not (eqb (keyOf o) (keyOf p)))
 
 abbrev operationCount : Kind → ℕ
-operationCount Stack = 3
-operationCount Set = 3
-operationCount Table = 5
+operationCount kind = suc (lastNumber kind) - firstNumber kind
 
 place : (o : Operation) → (i : ℕ) × (i < operationCount (kindOf o)) × (numberOf o ≡ firstNumber (kindOf o) + i)
 place (onStack (push x)) = (0, omega arith, refl)
@@ -75,7 +72,7 @@ place (onTable (modify k v)) = (4, omega arith, refl)
 abbrev mutual-at : Kind → ℕ → ℕ → Bool → Bool
 mutual-at kind a b differ =
     says (ruleAt (recoverableRules kind) a b) differ
-    && (says (ruleAt (recoverableRules kind) b a) differ && not (overwriting (firstNumber kind + a) (firstNumber kind + b) differ))
+    && (says (ruleAt (recoverableRules kind) b a) differ && not (rewriting (firstNumber kind + a) (firstNumber kind + b) differ))
 
 abbrev agree-at : Kind → Bool → ℕ → ℕ → Bool
 agree-at kind differ a b = Bool·beq (says (ruleAt (commutingRules kind) a b) differ) (mutual-at kind a b differ)
@@ -100,15 +97,15 @@ cell kind differ a b ha hb =
 at-numbers : (kind : Kind) (o p : Operation) (a b n m : ℕ) → a < operationCount kind → b < operationCount kind → n ≡ firstNumber kind + a → m ≡ firstNumber kind + b
     → allows (ruleAt (commutingRules kind) (n - firstNumber kind) (m - firstNumber kind)) o p
     ≡ (allows (ruleAt (recoverableRules kind) (n - firstNumber kind) (m - firstNumber kind)) o p
-    && (allows (ruleAt (recoverableRules kind) (m - firstNumber kind) (n - firstNumber kind)) p o && not (overwriting n m (not (eqb (keyOf o) (keyOf p))))))
+    && (allows (ruleAt (recoverableRules kind) (m - firstNumber kind) (n - firstNumber kind)) p o && not (rewriting n m (not (eqb (keyOf o) (keyOf p))))))
 at-numbers kind o p a b n m ha hb en em =
     let row : n - firstNumber kind ≡ a = omega arith in
     let column : m - firstNumber kind ≡ b = omega arith in
     rw (row, column, en, em, allows-says (ruleAt (commutingRules kind) a b) o p, allows-says (ruleAt (recoverableRules kind) a b) o p, allows-says (ruleAt (recoverableRules kind) b a) p o, eqb-swap (keyOf p) (keyOf o))
     (cell kind (not (eqb (keyOf o) (keyOf p))) a b ha hb)
 
--- Two operations commute where each is recoverable against the other, unless they write one place.
-pub commuting-mutual : (o p : Operation) → kindOf p ≡ kindOf o → commutes o p ≡ (recoverable o p && (recoverable p o && not (overwrites o p)))
+-- Two operations commute where each is recoverable against the other, unless both are pushes or both modify one key.
+pub commuting-mutual : (o p : Operation) → kindOf p ≡ kindOf o → commutes o p ≡ (recoverable o p && (recoverable p o && not (rewrites o p)))
 commuting-mutual o p k =
     rw k
     (at-numbers (kindOf o) o p (place o .0) (place p .0) (numberOf o) (numberOf p) (place o .1) (rw k at (place p .1)) (place o .2) (rw k at (place p .2)))

@@ -9,7 +9,7 @@ use Rattle.operations.specs.PairRules.{firstNumber, recoverable, commute
 use Rattle.operations.specs.Log.{ObjectType}
 use Rattle.operations.specs.Laws.Stacks.{StackView, stackView, stack-valid, stack-reply, stack-view-next, stack-view-recoverable, stack-commutes}
 use Rattle.operations.specs.Laws.Sets.{SetView, setView, set-values, set-reduced, set-ascending, set-reply, set-view-next, set-view-recoverable, set-commutes}
-use Rattle.operations.specs.Laws.Grid.{overwrites, commuting-mutual}
+use Rattle.operations.specs.Laws.Grid.{rewrites, commuting-mutual}
 use Rattle.operations.specs.Laws.Tables.{TableView, tableView, next-ascending, next-reduced, table-reply, table-view-next, table-view-recoverable, table-commutes}
 
 -- ---- By the kind of one operation, and of two
@@ -88,10 +88,10 @@ module _ (reduce : ℕ → ℕ) (kind : Kind) where
 
     pub recoverable-commutes : Fits reduce kind o → Fits reduce kind p → commutes o p ≡ true → (recoverable o p ≡ true) × (recoverable p o ≡ true)
     recoverable-commutes f g e =
-        let all : (recoverable o p && (recoverable p o && not (overwrites o p))) ≡ true = sym (commuting-mutual o p (g .0 ∙ sym (f .0))) ∙ e in
-        let parts : (recoverable o p ≡ true) × ((recoverable p o && not (overwrites o p)) ≡ true) =
-        and-eq-true-iff (recoverable o p) (recoverable p o && not (overwrites o p)) .0 all in
-        (parts .0, and-eq-true-iff (recoverable p o) (not (overwrites o p)) .0 (parts .1) .0)
+        let all : (recoverable o p && (recoverable p o && not (rewrites o p))) ≡ true = sym (commuting-mutual o p (g .0 ∙ sym (f .0))) ∙ e in
+        let parts : (recoverable o p ≡ true) × ((recoverable p o && not (rewrites o p)) ≡ true) =
+        and-eq-true-iff (recoverable o p) (recoverable p o && not (rewrites o p)) .0 all in
+        (parts .0, and-eq-true-iff (recoverable p o) (not (rewrites o p)) .0 (parts .1) .0)
 
   -- A stack, set or table as an object type; `reduce` is the key reduction in force.
   abbrev pub object : ObjectType

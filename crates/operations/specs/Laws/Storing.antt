@@ -12,32 +12,18 @@ at-place P [] a n x e = absurd (Option·none-ne-some _ e)
 at-place P (y ∷ l) a zero x e = let same : y ≡ x = cc in subst P same (a .0)
 at-place P (y ∷ l) a (suc n) x e = at-place P l (a .1) n x e
 
--- what holds of each operation holds of the one that a number names
-at-number : (P : Operation → Type 0) (reduce : ℕ → ℕ) (k v : ℕ) → All P (numbered reduce k v) → (number : ℕ) (o : Operation)
-    → stored reduce number k v ≡ some o → P o
-at-number P reduce k v a zero o e = absurd (Option·none-ne-some _ e)
-at-number P reduce k v a (suc n) o e = at-place P (numbered reduce k v) a n o e
-
 -- A reduction that changes nothing the second time, and keeps the key 0 of an operation without one.
 module _ (reduce : ℕ → ℕ) (once : (k : ℕ) → Reduced reduce (reduce k)) (keeps-zero : Reduced reduce 0) where
   all-stored : (k v : ℕ) → All (StoredKey reduce) (numbered reduce k v)
   all-stored k v = (tt, (tt, (tt, (once k, (once k, (once k, (once k, (once k, (once k, (keeps-zero, (once k, tt)))))))))))
 
   pub stored-reduced : (number k v : ℕ) (o : Operation) → stored reduce number k v ≡ some o → StoredKey reduce o
-  stored-reduced number k v o e = at-number (StoredKey reduce) reduce k v (all-stored k v) number o e
+  stored-reduced zero k v o e = absurd (Option·none-ne-some _ e)
+  stored-reduced (suc n) k v o e = at-place (StoredKey reduce) (numbered reduce k v) (all-stored k v) n o e
 
 pub reduced-once : (k : ℕ) → Reduced reduceKey (reduceKey k)
 unfolding reduceKey
 reduced-once k = omega arith
-
--- Where no value is given none is stored, and so for the key: an argument that is not used is 0.
-pub unused-value : (number k : ℕ) (o : Operation) → stored (λ j. j) number k 0 ≡ some o → valueOf o ≡ 0
-unused-value number k =
-    at-number (λ (o : Operation). valueOf o ≡ 0) (λ j. j) k 0 (refl, (refl, (refl, (refl, (refl, (refl, (refl, (refl, (refl, (refl, (refl, tt))))))))))) number
-
-pub unused-key : (number v : ℕ) (o : Operation) → stored (λ j. j) number 0 v ≡ some o → keyOf o ≡ 0
-unused-key number v =
-    at-number (λ (o : Operation). keyOf o ≡ 0) (λ j. j) 0 v (refl, (refl, (refl, (refl, (refl, (refl, (refl, (refl, (refl, (refl, (refl, tt))))))))))) number
 
 -- An operation is read back from the number, key and value that are stored for it.
 pub read-back : (o : Operation) → stored (λ k. k) (numberOf o) (keyOf o) (valueOf o) ≡ some o

@@ -76,7 +76,7 @@ found-next p j s t a b =
     by-key (λ (i : ℕ). found i s ≡ found i t → found i (tableNext p s) ≡ found i (tableNext p t)) j (tableKey p)
     (λ e. found-own p s a ∙ ap (change p) e ∙ sym (found-own p t b)) (λ n e. found-other p s a j n ∙ e ∙ sym (found-other p t b j n))
 
-present-own : (p : TableOperation) (rs : List Row) → Ascending rs → present (tableKey p) (tableNext p rs) ≡ presence p (present (tableKey p) rs)
+pub present-own : (p : TableOperation) (rs : List Row) → Ascending rs → present (tableKey p) (tableNext p rs) ≡ presence p (present (tableKey p) rs)
 present-own p rs a = ap isSome (found-own p rs a) ∙ change-presence p (found (tableKey p) rs)
 
 pub present-next : (p : TableOperation) (j : ℕ) (s t : List Row) → Ascending s → Ascending t → present j s ≡ present j t

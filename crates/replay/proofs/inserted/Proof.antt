@@ -12,8 +12,8 @@ use Rattle.replay.proofs.inserted.Tie as tie
 fits : (c : tie.Start) → c .args .count ≤ length (c .args .t1)
 fits c = omega (arith, c .good .0 .1 .0 .1)
 
-slice-aggregate-live : tie.Need-slice-aggregate-live
-slice-aggregate-live c = sym (length-take-le _ _ (fits (c .before)))
+slice-aggregate-filled : tie.Need-slice-aggregate-filled
+slice-aggregate-filled c = sym (length-take-le _ _ (fits (c .before)))
 
 returns : tie.Need-returns
 returns c = inserted-kept _ _ (fits (c .before .before .before .before)) _ _ (c .before .before .position .ensures) _ (sym (c .before .present .ensures) ∙ c .if1 .taken)
@@ -29,7 +29,7 @@ inserted-spec =
     tie.close
     (tie.spec
     (λ c. search needs)
-    slice-aggregate-live
+    slice-aggregate-filled
     (λ c κs. search needs)
     (λ c κs. search needs)
     returns

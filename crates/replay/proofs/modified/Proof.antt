@@ -15,8 +15,8 @@ fits c = omega (arith, c .good .0 .1 .0 .1)
 inside : (c : tie.Then1) → c .before .before .position .result < c .before .before .before .before .args .count
 inside c = within _ _ (fits (c .before .before .before .before)) _ _ (c .before .before .position .ensures) (sym (c .before .present .ensures) ∙ c .if1 .taken)
 
-slice-aggregate-live : tie.Need-slice-aggregate-live
-slice-aggregate-live c = sym (length-take-le _ _ (fits (c .before)))
+slice-aggregate-filled : tie.Need-slice-aggregate-filled
+slice-aggregate-filled c = sym (length-take-le _ _ (fits (c .before)))
 
 mul-rows : tie.Need-mul-rows
 mul-rows c = omega (arith, inside c)
@@ -35,7 +35,7 @@ modified-spec =
     tie.close
     (tie.spec
     (λ c. search needs)
-    slice-aggregate-live
+    slice-aggregate-filled
     (λ c κs. search needs)
     (λ c κs. search needs)
     mul-rows

@@ -10,11 +10,11 @@ use Rattle.replay.specs.Laws.Numbers.{count-push, count-pop, count-pop-e
 use Rattle.replay.proofs.next_count.Statement.{statement}
 use Rattle.replay.proofs.next_count.Tie as tie
 
-fits : (c : tie.After-copy) → c .before .args .count ≤ length (c .before .args .rows .now)
-fits c = omega (arith, c .copy .given .0)
+fits : (c : tie.After-whole) → c .before .args .count ≤ length (c .before .args .rows .now)
+fits c = omega (arith, c .whole .given .0)
 
-slice-aggregate-live : tie.Need-slice-aggregate-live
-slice-aggregate-live c = sym (length-take-le _ _ (fits (c .before)))
+slice-aggregate-filled : tie.Need-slice-aggregate-filled
+slice-aggregate-filled c = sym (length-take-le _ _ (fits (c .before)))
 
 sub-result-2 : tie.Need-sub-result-2
 sub-result-2 c = nonempty _ _ (fits (c .before .before .before .before)) _ (sym (c .before .contains2 .ensures) ∙ c .if3 .taken)
@@ -49,7 +49,7 @@ pub next-count-spec : {M : Type 1} → statement M
 next-count-spec =
     tie.close
     (tie.spec
-    slice-aggregate-live
+    slice-aggregate-filled
     (λ c. search needs)
     (λ c. search needs)
     (λ c κs. search needs)

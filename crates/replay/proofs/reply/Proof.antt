@@ -19,59 +19,59 @@ use Rattle.replay.proofs.reply.Tie as tie
 abbrev asked : tie.Start → Operation
 asked s = s .args .operation
 
-abbrev live : tie.Start → List Row
-live s = rowsOf (s .args .rows .now) (s .args .count)
+abbrev filled : tie.Start → List Row
+filled s = rowsOf (s .args .rows .now) (s .args .count)
 
-fits : (c : tie.After-copy) → c .before .args .count ≤ length (c .before .args .rows .now)
-fits c = omega (arith, c .copy .given .0)
+fits : (c : tie.After-whole) → c .before .args .count ≤ length (c .before .args .rows .now)
+fits c = omega (arith, c .whole .given .0)
 
-slice-aggregate-live : tie.Need-slice-aggregate-live
-slice-aggregate-live c = sym (length-take-le _ _ (fits (c .before)))
+slice-aggregate-filled : tie.Need-slice-aggregate-filled
+slice-aggregate-filled c = sym (length-take-le _ _ (fits (c .before)))
 
 returns : tie.Need-returns
-returns c = reply-done (asked (c .before .before .before)) (live (c .before .before .before)) (c .match .keys1)
+returns c = reply-done (asked (c .before .before .before)) (filled (c .before .before .before)) (c .match .keys1)
 
 returns-2 : tie.Need-returns-2
 returns-2 c =
     c .flag .ensures
     ∙ ap (λ b. flag (not b)) (c .before .contains .ensures)
-    ∙ reply-insert (asked (c .before .before .before .before .before)) (live (c .before .before .before .before .before)) (c .before .before .match .keys3)
+    ∙ reply-insert (asked (c .before .before .before .before .before)) (filled (c .before .before .before .before .before)) (c .before .before .match .keys3)
 
 returns-3 : tie.Need-returns-3
-returns-3 c = c .lookup .ensures ∙ reply-lookup (asked (c .before .before .before .before)) (live (c .before .before .before .before)) (c .before .match .keys4)
+returns-3 c = c .lookup .ensures ∙ reply-lookup (asked (c .before .before .before .before)) (filled (c .before .before .before .before)) (c .before .match .keys4)
 
 returns-4 : tie.Need-returns-4
 returns-4 c =
     ap (λ n. replied 1 n) (sym (count-rows _ _ (fits (c .before .before))))
-    ∙ reply-size (asked (c .before .before .before)) (live (c .before .before .before)) (c .match .keys5)
+    ∙ reply-size (asked (c .before .before .before)) (filled (c .before .before .before)) (c .match .keys5)
 
 returns-5 : tie.Need-returns-5
 returns-5 c =
     c .top .ensures
-    ∙ reply-top (asked (c .before .before .before .before .before .before)) (live (c .before .before .before .before .before .before)) (c .before .before .before .match .rest .0 .0 .0 .0 .1) (c .before .before .if1 .left) (c .before .if2 .taken)
+    ∙ reply-top (asked (c .before .before .before .before .before .before)) (filled (c .before .before .before .before .before .before)) (c .before .before .before .match .rest .0 .0 .0 .0 .1) (c .before .before .if1 .left) (c .before .if2 .taken)
 
 returns-6 : tie.Need-returns-6
-returns-6 c = reply-below (asked (c .before .before .before .before)) (live (c .before .before .before .before)) (c .if1 .taken)
+returns-6 c = reply-below (asked (c .before .before .before .before)) (filled (c .before .before .before .before)) (c .if1 .taken)
 
 returns-7 : tie.Need-returns-7
 returns-7 c =
     let rest = c .before .before .before .match .rest in
-    reply-above (asked (c .before .before .before .before .before .before)) (live (c .before .before .before .before .before .before)) (rest .0 .0 .0 .1) (rest .0 .0 .1) (rest .0 .1) (rest .1) (c .if3 .left)
+    reply-above (asked (c .before .before .before .before .before .before)) (filled (c .before .before .before .before .before .before)) (rest .0 .0 .0 .1) (rest .0 .0 .1) (rest .0 .1) (rest .1) (c .if3 .left)
 
 returns-8 : tie.Need-returns-8
 returns-8 c =
     c .flag2 .ensures
     ∙ ap flag (c .before .contains2 .ensures)
     ∙ ⊎-elim
-    (λ w. reply-present (asked (c .before .before .before .before .before)) (live (c .before .before .before .before .before)) (w .keys2))
-    (λ w. reply-present-set (asked (c .before .before .before .before .before)) (live (c .before .before .before .before .before)) (w .0 .rest .0 .0 .0 .0 .1) (w .2 .left) (w .3 .taken))
+    (λ w. reply-present (asked (c .before .before .before .before .before)) (filled (c .before .before .before .before .before)) (w .keys2))
+    (λ w. reply-present-set (asked (c .before .before .before .before .before)) (filled (c .before .before .before .before .before)) (w .0 .rest .0 .0 .0 .0 .1) (w .2 .left) (w .3 .taken))
     (c .before .before .match .came)
 
 pub reply-spec : {M : Type 1} → statement M
 reply-spec =
     tie.close
     (tie.spec
-    slice-aggregate-live
+    slice-aggregate-filled
     (λ c κs. search needs)
     (λ c κs. search needs)
     (λ c κs. search needs)

@@ -10,14 +10,11 @@ use lib.ListN.{length, take, length-append, List·getD-eq-default}
 use lib.Seq.{length-take-le}
 use Rattle.operations.specs.Operations.{Row, row, numbered, stored, inserted, deleted, modified, present, found, topItem, flag, valued, replied}
 use Rattle.operations.specs.declared.Operation.{Operation}
-use Rattle.operations.specs.Laws.Rows.{order}
+use Rattle.operations.specs.Laws.Cases.{same}
 use Rattle.operations.specs.Stored.{operationOf}
 use Rattle.replay.specs.Replay.{rowsOf, nextOf, nextBy, replyOf, replyBy, Holds, putAt}
 use Rattle.replay.specs.Laws.Positions.{inserted-same, inserted-more, deleted-less, deleted-same, modified-same}
 use Rattle.replay.specs.Laws.Copies.{count-rows, kept, popped, pushed}
-
-same : {A : Type 0} (m n : ℕ) → (m ≡ n → A) → ((m ≡ n → ⊥) → A) → A
-same m n equal other = order m n (λ l. other (λ e. omega arith)) equal (λ g. other (λ e. omega arith))
 
 past : {n : ℕ} (k : ℕ) → (n ≡ k → ⊥) → k ≤ n → k < n
 past k other h = omega arith
