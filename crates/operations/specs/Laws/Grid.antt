@@ -48,7 +48,7 @@ abbrev rewriting : ℕ → ℕ → Bool → Bool
 rewriting requested logged differ =
     (eqb requested 1 && eqb logged 1) || (eqb requested 11 && (eqb logged 11 && not differ))
 
--- Two pushes, or two modifies of one key: each is recoverable against the other, and the order shows.
+-- Two pushes, or two modifies of one key: each is recoverable against the other, and the tables still order them.
 abbrev pub rewrites : Operation → Operation → Bool
 rewrites o p = rewriting (numberOf o) (numberOf p) (not (eqb (keyOf o) (keyOf p)))
 
