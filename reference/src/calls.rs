@@ -1,0 +1,147 @@
+//! The six calls. Each tries its reasons for saying no in the paper's order, and writes nothing before the last.
+
+use crate::ending::Ending;
+use crate::layout::{self, Words, ENTRIES, KIND, OBJECTS, ROWS_START, ROW_COUNT, ROW_WORDS, TRANSACTIONS};
+use crate::log::{self, Entry};
+use crate::operations::{Answer, Kind, Operation, Request};
+use crate::rules::RECOVERABLE;
+use crate::soundness::{Analysis, Replays};
+use crate::transactions::{only, Status};
+use crate::{Outcome, Refusal, Reply};
+
+/// Writes an empty store over any contents.
+pub fn set_up(store: &mut [u32], kinds: &[u8]) -> Outcome {
+    let store = sized_mut(store)?;
+    if kinds.len() != OBJECTS || kinds.iter().any(|&kind| u32::from(kind) > Kind::HIGHEST) {
+        return Err(Refusal::Kinds);
+    }
+    store.fill(0);
+    for (object, &kind) in kinds.iter().enumerate() {
+        layout::object_mut(store, object)[KIND] = u32::from(kind);
+    }
+    Ok(Reply::Ok)
+}
+
+/// Opens a transaction.
+pub fn begin(store: &mut [u32], transaction: u32) -> Outcome {
+    let store = sized_mut(store)?;
+    analysed(store)?;
+    let status = layout::statuses_mut(store).get_mut(transaction as usize).ok_or(Refusal::TransactionNumber)?;
+    if *status != Status::Absent.word() {
+        return Err(Refusal::Live);
+    }
+    *status = Status::Active.word();
+    Ok(Reply::Ok)
+}
+
+/// Answers an operation and enters it in the log, unless it must wait for another transaction to end.
+pub fn operate(store: &mut [u32], transaction: u32, object: u32, operation: u32, key: u32, value: u32) -> Outcome {
+    let store = sized_mut(store)?;
+    let mut replays = Replays::none();
+    let analysis = Analysis::with_replays(store, &mut replays).ok_or(Refusal::Unsound)?;
+    let transaction = active(&analysis, transaction)?;
+    let (object, kind) = object_with_kind(store, object)?;
+    let operation = Operation::from_number(operation).filter(|operation| operation.kind() == kind);
+    let operation = operation.ok_or(Refusal::Operation)?;
+    if log::length(store) == ENTRIES {
+        return Err(Refusal::LogFull);
+    }
+    let replay = replays.of(store, object);
+    if !replay.has_room_for(operation) {
+        return Err(Refusal::RowsFull);
+    }
+    let request = Request::new(operation, key, value);
+    if let Some(owner) = first_conflict(store, transaction, object, request) {
+        return Ok(Reply::Wait { owner: owner as u32 });
+    }
+    let answer = replay.run(request);
+    log::push(store, &Entry { transaction, object, request, answer });
+    let Answer { code, value } = answer;
+    Ok(Reply::Answer { code, value })
+}
+
+/// Commits a transaction that depends on nobody, pseudo-commits one that does, and aborts one on a cycle.
+pub fn finish(store: &mut [u32], transaction: u32, list: &mut [u8]) -> Outcome {
+    let store = sized_mut(store)?;
+    let list = long_enough(list)?;
+    let analysis = analysed(store)?;
+    let transaction = active(&analysis, transaction)?;
+    let Analysis { statuses, dependencies } = &analysis;
+    // Without it the pseudo-committed ones form no cycle, so with it every cycle runs through it.
+    if dependencies.cyclic(statuses.pseudo_committed | only(transaction)) {
+        return Ok(Reply::Circle { count: Ending::new(store, analysis, list).abort(transaction) });
+    }
+    if dependencies.of(transaction) == 0 {
+        return Ok(Reply::Committed { count: Ending::new(store, analysis, list).commit(transaction) });
+    }
+    layout::statuses_mut(store)[transaction] = Status::PseudoCommitted { rank: statuses.next_rank() }.word();
+    Ok(Reply::Finished)
+}
+
+/// Aborts a transaction.
+pub fn cancel(store: &mut [u32], transaction: u32, list: &mut [u8]) -> Outcome {
+    let store = sized_mut(store)?;
+    let list = long_enough(list)?;
+    let analysis = analysed(store)?;
+    let transaction = active(&analysis, transaction)?;
+    Ok(Reply::Cancelled { count: Ending::new(store, analysis, list).abort(transaction) })
+}
+
+/// The object's rows, two words each; empty where refused.
+pub fn contents(store: &[u32], object: u32) -> &[u32] {
+    rows(store, object).unwrap_or_default()
+}
+
+/// The number of rows that `contents` hands back, or why it hands back none.
+pub fn contents_count(store: &[u32], object: u32) -> Result<usize, Refusal> {
+    rows(store, object).map(|rows| rows.len() / ROW_WORDS)
+}
+
+fn rows(store: &[u32], object: u32) -> Result<&[u32], Refusal> {
+    let store = <&Words>::try_from(store).map_err(|_| Refusal::StoreLength)?;
+    analysed(store)?;
+    let (object, _) = object_with_kind(store, object)?;
+    let words = layout::object(store, object);
+    Ok(&words[ROWS_START..][..words[ROW_COUNT] as usize * ROW_WORDS])
+}
+
+fn sized_mut(store: &mut [u32]) -> Result<&mut Words, Refusal> {
+    store.try_into().map_err(|_| Refusal::StoreLength)
+}
+
+/// The part of a list that transactions may be written to: there is space for all of them.
+fn long_enough(list: &mut [u8]) -> Result<&mut [u8], Refusal> {
+    list.get_mut(..TRANSACTIONS).ok_or(Refusal::ListLength)
+}
+
+fn analysed(store: &Words) -> Result<Analysis, Refusal> {
+    Analysis::of(store).ok_or(Refusal::Unsound)
+}
+
+fn active(analysis: &Analysis, transaction: u32) -> Result<usize, Refusal> {
+    let transaction = transaction as usize;
+    if transaction >= TRANSACTIONS {
+        Err(Refusal::TransactionNumber)
+    } else if analysis.statuses.active & only(transaction) == 0 {
+        Err(Refusal::NotActive)
+    } else {
+        Ok(transaction)
+    }
+}
+
+/// An object that has a kind, and the kind.
+fn object_with_kind(store: &Words, object: u32) -> Result<(usize, Kind), Refusal> {
+    let object = object as usize;
+    let number = if object < OBJECTS { layout::object(store, object)[KIND] } else { 0 };
+    Kind::from_number(number).map(|kind| (object, kind)).ok_or(Refusal::Object)
+}
+
+/// The owner of the earliest entry of another transaction on the object that the request isn't recoverable against.
+fn first_conflict(store: &Words, transaction: usize, object: usize, request: Request) -> Option<usize> {
+    log::entries(store)
+        .filter(|entry| entry.object == object && entry.transaction != transaction)
+        .find(|Entry { request: logged, .. }| {
+            !RECOVERABLE.allow((request.operation, request.key), (logged.operation, logged.key))
+        })
+        .map(|entry| entry.transaction)
+}

@@ -1,0 +1,63 @@
+//! Who has logged what where, so that a new entry meets sets of owners instead of every earlier entry.
+
+use crate::layout::ENTRIES;
+use crate::operations::Operation;
+use crate::rules::Rule;
+use crate::transactions::{only, TransactionSet};
+
+/// The owners of logged entries, one set for each operation of the object's kind.
+#[derive(Clone, Copy, Default)]
+pub(crate) struct Owners([TransactionSet; Operation::MOST_OF_A_KIND]);
+
+impl Owners {
+    pub fn add(&mut self, operation: Operation, transaction: usize) {
+        self.0[operation.index()] |= only(transaction);
+    }
+
+    /// The owners of entries that a requested operation's row of rules says no to, out of the owners of entries on the
+    /// same key and on any key of the object.
+    pub fn disallowed(rules: &[Rule], same_key: &Owners, any_key: &Owners) -> TransactionSet {
+        let logged = same_key.0.iter().zip(&any_key.0);
+        rules.iter().zip(logged).fold(0, |owners, (rule, (same_key, any_key))| match rule {
+            Rule::Always => owners,
+            Rule::Apart => owners | same_key,
+            Rule::Never => owners | any_key,
+        })
+    }
+}
+
+/// Slots of the hash table: a power of two, and at most half of them taken.
+const SLOTS: usize = 2 * ENTRIES;
+const FREE: u16 = u16::MAX;
+
+/// The owners for each key of each object in a log, found by hashing.
+pub(crate) struct Footprints {
+    slots: [u16; SLOTS],
+    places: [(u64, Owners); ENTRIES],
+    count: usize,
+}
+
+impl Footprints {
+    pub fn new() -> Footprints {
+        Footprints { slots: [FREE; SLOTS], places: [(0, Owners::default()); ENTRIES], count: 0 }
+    }
+
+    /// The owners for a key, asked for at most once for each log entry.
+    pub fn at(&mut self, object: usize, key: u32) -> &mut Owners {
+        let place = (object as u64) << u32::BITS | u64::from(key);
+        let mut slot = (place.wrapping_mul(0x9E37_79B9_7F4A_7C15) >> (u64::BITS - SLOTS.trailing_zeros())) as usize;
+        loop {
+            match self.slots[slot] {
+                FREE => {
+                    self.slots[slot] = self.count as u16;
+                    self.places[self.count].0 = place;
+                    self.count += 1;
+                }
+                index if self.places[usize::from(index)].0 == place => {
+                    return &mut self.places[usize::from(index)].1;
+                }
+                _ => slot = (slot + 1) % SLOTS,
+            }
+        }
+    }
+}

@@ -1,0 +1,54 @@
+//! What the calls say: replies, and reasons for saying no.
+
+/// Why a call is refused; the discriminant is the paper's number.
+#[derive(Clone, Copy, Debug, PartialEq, Eq, PartialOrd, Ord, Hash)]
+#[repr(u8)]
+pub enum Refusal {
+    StoreLength = 1,
+    ListLength = 2,
+    Kinds = 3,
+    Unsound = 4,
+    TransactionNumber = 5,
+    Live = 6,
+    NotActive = 7,
+    Object = 8,
+    Operation = 9,
+    LogFull = 10,
+    RowsFull = 11,
+}
+
+impl Refusal {
+    /// The paper's number.
+    pub const fn number(self) -> u32 {
+        self as u32
+    }
+}
+
+/// What a call that is not refused says. The counts are of the transactions at the front of the list.
+#[derive(Clone, Copy, Debug, PartialEq, Eq)]
+pub enum Reply {
+    /// Set up and begin.
+    Ok,
+    Answer {
+        code: u32,
+        value: u32,
+    },
+    Wait {
+        owner: u32,
+    },
+    /// Pseudo-committed: it still depends on others.
+    Finished,
+    Committed {
+        count: usize,
+    },
+    /// On a cycle of commit dependencies, and aborted for it.
+    Circle {
+        count: usize,
+    },
+    Cancelled {
+        count: usize,
+    },
+}
+
+/// What a call says.
+pub type Outcome = Result<Reply, Refusal>;

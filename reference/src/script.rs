@@ -1,0 +1,177 @@
+//! The script program: lines of calls in, lines of replies out.
+
+use std::io::{self, BufWriter, ErrorKind, Read, Write};
+
+use crate::call::Call;
+use crate::layout::{OBJECTS, TRANSACTIONS, WORDS};
+use crate::{Outcome, Reply};
+
+/// Bytes read or written at once.
+const BLOCK: usize = 1 << 16;
+/// Digits of a number, leading zeros among them.
+const MOST_DIGITS: usize = 10;
+/// The longest line that is a call: `S` with a kind for each object, each after a space.
+const LONGEST_CALL: usize = 1 + OBJECTS * (1 + MOST_DIGITS);
+
+/// The call that a line, without its line feed, stands for; none where it is `unread`.
+pub fn parse(line: &[u8]) -> Option<Call> {
+    let mut fields = line.split(|&byte| byte == b' ');
+    match fields.next()? {
+        b"S" => kinds(fields).map(|kinds| Call::SetUp { kinds }),
+        b"B" => numbers(fields).map(|[transaction]| Call::Begin { transaction }),
+        b"I" => numbers(fields).map(|[transaction, object, operation, key, value]| Call::Operate {
+            transaction,
+            object,
+            operation,
+            key,
+            value,
+        }),
+        b"F" => numbers(fields).map(|[transaction]| Call::Finish { transaction }),
+        b"C" => numbers(fields).map(|[transaction]| Call::Cancel { transaction }),
+        _ => None,
+    }
+}
+
+/// Up to 16 kinds; the missing ones are 0.
+fn kinds<'a>(fields: impl Iterator<Item = &'a [u8]>) -> Option<Vec<u8>> {
+    let mut kinds = vec![0; OBJECTS];
+    for (index, field) in fields.enumerate() {
+        *kinds.get_mut(index)? = number(field)?.try_into().ok()?;
+    }
+    Some(kinds)
+}
+
+/// Exactly N numbers.
+fn numbers<'a, const N: usize>(mut fields: impl Iterator<Item = &'a [u8]>) -> Option<[u32; N]> {
+    let mut numbers = [0; N];
+    for place in &mut numbers {
+        *place = number(fields.next()?)?;
+    }
+    fields.next().is_none().then_some(numbers)
+}
+
+fn number(field: &[u8]) -> Option<u32> {
+    if field.is_empty() || field.len() > MOST_DIGITS || !field.iter().all(u8::is_ascii_digit) {
+        return None;
+    }
+    field.iter().fold(0, |number, digit| number * 10 + u64::from(digit - b'0')).try_into().ok()
+}
+
+/// Serves a whole script from a store of zeros: one line out for each line in. What was read is answered before more
+/// is waited for.
+pub fn run(mut input: impl Read, output: impl Write) -> io::Result<()> {
+    let mut desk = Desk::new(output);
+    let mut block = vec![0; BLOCK];
+    loop {
+        desk.output.flush()?;
+        match input.read(&mut block) {
+            Ok(0) => return desk.close(),
+            Ok(length) => desk.take(&block[..length])?,
+            Err(error) if error.kind() == ErrorKind::Interrupted => {}
+            Err(error) => return Err(error),
+        }
+    }
+}
+
+/// A store that answers bytes of a script.
+struct Desk<W: Write> {
+    store: [u32; WORDS],
+    list: [u8; TRANSACTIONS],
+    line: Line,
+    output: BufWriter<W>,
+}
+
+impl<W: Write> Desk<W> {
+    fn new(output: W) -> Desk<W> {
+        Desk {
+            store: [0; WORDS],
+            list: [0; TRANSACTIONS],
+            line: Line::new(),
+            output: BufWriter::with_capacity(BLOCK, output),
+        }
+    }
+
+    /// Answers the lines that end in the block, and keeps what comes after them.
+    fn take(&mut self, block: &[u8]) -> io::Result<()> {
+        for part in block.split_inclusive(|&byte| byte == b'\n') {
+            match part.strip_suffix(b"\n") {
+                None => self.line.extend(part),
+                Some(line) if self.line.is_empty() => self.answer(line)?,
+                Some(end) => {
+                    self.line.extend(end);
+                    self.answer_kept()?;
+                }
+            }
+        }
+        Ok(())
+    }
+
+    /// Answers the line that the end of the input ends, if there is one.
+    fn close(mut self) -> io::Result<()> {
+        if !self.line.is_empty() {
+            self.answer_kept()?;
+        }
+        self.output.flush()
+    }
+
+    fn answer_kept(&mut self) -> io::Result<()> {
+        let line = std::mem::replace(&mut self.line, Line::new());
+        self.answer(line.bytes())
+    }
+
+    fn answer(&mut self, line: &[u8]) -> io::Result<()> {
+        match parse(line) {
+            Some(call) => {
+                let outcome = call.serve(&mut self.store, &mut self.list);
+                print(&mut self.output, outcome, &self.list)
+            }
+            None => self.output.write_all(b"unread\n"),
+        }
+    }
+}
+
+/// A line not yet ended: as much of it as tells whether it is too long for a call.
+struct Line {
+    bytes: [u8; LONGEST_CALL + 1],
+    length: usize,
+}
+
+impl Line {
+    fn new() -> Line {
+        Line { bytes: [0; LONGEST_CALL + 1], length: 0 }
+    }
+
+    fn is_empty(&self) -> bool {
+        self.length == 0
+    }
+
+    fn bytes(&self) -> &[u8] {
+        &self.bytes[..self.length]
+    }
+
+    fn extend(&mut self, bytes: &[u8]) {
+        let space = &mut self.bytes[self.length..];
+        let taken = bytes.len().min(space.len());
+        space[..taken].copy_from_slice(&bytes[..taken]);
+        self.length += taken;
+    }
+}
+
+/// Prints what a call says, with the transactions at the front of the list where the reply counts them.
+fn print(output: &mut impl Write, outcome: Outcome, list: &[u8]) -> io::Result<()> {
+    let (word, count) = match outcome {
+        Err(refusal) => return writeln!(output, "refused {}", refusal.number()),
+        Ok(Reply::Answer { code, value }) => return writeln!(output, "answer {code} {value}"),
+        Ok(Reply::Wait { owner }) => return writeln!(output, "wait {owner}"),
+        Ok(Reply::Ok) => ("ok", 0),
+        Ok(Reply::Finished) => ("finished", 0),
+        Ok(Reply::Committed { count }) => ("committed", count),
+        Ok(Reply::Circle { count }) => ("circle", count),
+        Ok(Reply::Cancelled { count }) => ("cancelled", count),
+    };
+    output.write_all(word.as_bytes())?;
+    for transaction in &list[..count] {
+        write!(output, " {transaction}")?;
+    }
+    output.write_all(b"\n")
+}

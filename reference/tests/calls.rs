@@ -1,0 +1,736 @@
+//! What each call writes, word for word, and what it says.
+
+mod common;
+
+use common::{assert_same_words, row_word, Desk, Store, BLANK, UNREDUCED, WORDS};
+use reference::calls::{self, contents, contents_count};
+use reference::{Refusal, Reply};
+
+const STACK: usize = 0;
+const SET: usize = 1;
+const TABLE: usize = 2;
+const KINDS: [u32; 4] = [1, 2, 3, 1];
+
+/// A desk with a stack 0, a set 1, a table 2 and a second stack 3.
+fn desk() -> Desk {
+    Desk::of(&[1, 2, 3, 1])
+}
+
+/// The store of such a desk, when empty.
+fn empty() -> Store {
+    Store::of(&KINDS)
+}
+
+/// A desk on which transaction 0 is active.
+fn begun() -> Desk {
+    let mut desk = desk();
+    desk.follow("B 0  ok");
+    desk
+}
+
+#[test]
+fn set_up_writes_an_empty_store_over_anything() {
+    let kinds: Vec<u8> = (0..16).map(|object| object % 4).collect();
+    let mut store = vec![u32::MAX; WORDS];
+    assert_eq!(calls::set_up(&mut store, &kinds), Ok(Reply::Ok));
+    assert_same_words(&store, &Store::of(&kinds.iter().map(|&kind| u32::from(kind)).collect::<Vec<_>>()).words);
+}
+
+#[test]
+fn begin_writes_the_status() {
+    let mut desk = desk();
+    desk.follow("B 63  ok\n B 0  ok");
+    desk.assert_store(&empty().active(&[0, 63]));
+}
+
+#[test]
+fn operations_are_entered_with_unused_arguments_zero() {
+    let mut desk = begun();
+    desk.follow(
+        "I 0 0 1 4294967295 9         answer 1 0
+         I 0 0 3 8 9                  answer 1 4294967295
+         I 0 0 2 8 9                  answer 1 4294967295
+         I 0 0 2 8 9                  answer 0 0
+         I 0 0 3 8 9                  answer 0 0
+         I 0 1 4 4 9                  answer 1 0
+         I 0 1 4 4 9                  answer 1 0
+         I 0 1 6 4 9                  answer 1 0
+         I 0 1 5 4 9                  answer 1 0
+         I 0 1 5 4 9                  answer 0 0
+         I 0 1 6 4 9                  answer 0 0
+         I 0 2 11 5 1                 answer 0 0
+         I 0 2 7 5 4294967295         answer 1 0
+         I 0 2 7 5 2                  answer 0 0
+         I 0 2 9 5 9                  answer 1 4294967295
+         I 0 2 11 5 3                 answer 1 0
+         I 0 2 9 5 9                  answer 1 3
+         I 0 2 10 8 9                 answer 1 1
+         I 0 2 8 5 9                  answer 1 0
+         I 0 2 8 5 9                  answer 0 0
+         I 0 2 9 5 9                  answer 0 0
+         I 0 2 10 8 9                 answer 1 0",
+    );
+    desk.assert_store(&empty().active(&[0]).log(&[
+        [0, 0, 1, u32::MAX, 0, 1, 0],
+        [0, 0, 3, 0, 0, 1, u32::MAX],
+        [0, 0, 2, 0, 0, 1, u32::MAX],
+        [0, 0, 2, 0, 0, 0, 0],
+        [0, 0, 3, 0, 0, 0, 0],
+        [0, 1, 4, 4, 0, 1, 0],
+        [0, 1, 4, 4, 0, 1, 0],
+        [0, 1, 6, 4, 0, 1, 0],
+        [0, 1, 5, 4, 0, 1, 0],
+        [0, 1, 5, 4, 0, 0, 0],
+        [0, 1, 6, 4, 0, 0, 0],
+        [0, 2, 11, 5, 1, 0, 0],
+        [0, 2, 7, 5, u32::MAX, 1, 0],
+        [0, 2, 7, 5, 2, 0, 0],
+        [0, 2, 9, 5, 0, 1, u32::MAX],
+        [0, 2, 11, 5, 3, 1, 0],
+        [0, 2, 9, 5, 0, 1, 3],
+        [0, 2, 10, 0, 0, 1, 1],
+        [0, 2, 8, 5, 0, 1, 0],
+        [0, 2, 8, 5, 0, 0, 0],
+        [0, 2, 9, 5, 0, 0, 0],
+        [0, 2, 10, 0, 0, 1, 0],
+    ]));
+}
+
+#[test]
+fn keys_lose_the_makers_mark_and_items_keep_it() {
+    let mut desk = begun();
+    desk.follow(
+        "I 0 0 1 16777221 0       answer 1 0
+         I 0 1 4 16777221 0       answer 1 0
+         I 0 1 6 4278190085 0     answer 1 0
+         I 0 2 7 4294967295 6     answer 1 0
+         I 0 2 9 16777215 0       answer 1 6
+         I 0 2 11 33554431 8      answer 1 0",
+    );
+    desk.assert_store(&empty().active(&[0]).log(&[
+        [0, 0, 1, UNREDUCED + 5, 0, 1, 0],
+        [0, 1, 4, 5, 0, 1, 0],
+        [0, 1, 6, 5, 0, 1, 0],
+        [0, 2, 7, UNREDUCED - 1, 6, 1, 0],
+        [0, 2, 9, UNREDUCED - 1, 0, 1, 6],
+        [0, 2, 11, UNREDUCED - 1, 8, 1, 0],
+    ]));
+}
+
+/// Asserts the rows of an object once transaction 0, alone at the desk, has made the operations and committed.
+fn assert_committed_rows(object: usize, before: &[[u32; 2]], operations: &str, after: &[[u32; 2]]) {
+    let mut desk = Desk::on(empty().rows(object, before).active(&[0]));
+    desk.follow(&format!("{operations}\n F 0  committed 0"));
+    desk.assert_store(&empty().rows(object, after));
+}
+
+#[test]
+fn commit_of_pushes() {
+    assert_committed_rows(
+        STACK,
+        &[[7, 0]],
+        "I 0 0 1 9 0            answer 1 0
+         I 0 0 1 4294967295 0   answer 1 0",
+        &[[7, 0], [9, 0], [u32::MAX, 0]],
+    );
+}
+
+#[test]
+fn commit_of_pops_zeroes_the_rows() {
+    assert_committed_rows(
+        STACK,
+        &[[7, 0], [8, 0], [9, 0]],
+        "I 0 0 2 0 0  answer 1 9
+         I 0 0 2 0 0  answer 1 8",
+        &[[7, 0]],
+    );
+}
+
+#[test]
+fn commit_of_more_pops_than_items() {
+    assert_committed_rows(
+        STACK,
+        &[[7, 0]],
+        "I 0 0 2 0 0  answer 1 7
+         I 0 0 2 0 0  answer 0 0
+         I 0 0 1 6 0  answer 1 0",
+        &[[6, 0]],
+    );
+}
+
+#[test]
+fn commit_of_top_changes_no_row() {
+    assert_committed_rows(STACK, &[[7, 0]], "I 0 0 3 0 0  answer 1 7", &[[7, 0]]);
+}
+
+#[test]
+fn commit_of_set_inserts_keeps_keys_ascending() {
+    assert_committed_rows(
+        SET,
+        &[[4, 0], [8, 0]],
+        "I 0 1 4 6 0  answer 1 0
+         I 0 1 4 2 0  answer 1 0
+         I 0 1 4 9 0  answer 1 0
+         I 0 1 4 8 0  answer 1 0",
+        &[[2, 0], [4, 0], [6, 0], [8, 0], [9, 0]],
+    );
+}
+
+#[test]
+fn commit_of_set_deletes_closes_up_and_zeroes() {
+    assert_committed_rows(
+        SET,
+        &[[2, 0], [4, 0], [6, 0], [8, 0]],
+        "I 0 1 5 4 0  answer 1 0
+         I 0 1 5 8 0  answer 1 0
+         I 0 1 5 5 0  answer 0 0",
+        &[[2, 0], [6, 0]],
+    );
+}
+
+#[test]
+fn commit_of_member_changes_no_row() {
+    assert_committed_rows(SET, &[[4, 0]], "I 0 1 6 4 0  answer 1 0\n I 0 1 6 5 0  answer 0 0", &[[4, 0]]);
+}
+
+#[test]
+fn commit_of_table_inserts_keeps_keys_ascending_and_old_values() {
+    assert_committed_rows(
+        TABLE,
+        &[[4, 40], [8, 80]],
+        "I 0 2 7 6 60  answer 1 0
+         I 0 2 7 8 81  answer 0 0
+         I 0 2 7 2 20  answer 1 0
+         I 0 2 7 9 90  answer 1 0",
+        &[[2, 20], [4, 40], [6, 60], [8, 80], [9, 90]],
+    );
+}
+
+#[test]
+fn commit_of_table_deletes_closes_up_and_zeroes() {
+    assert_committed_rows(
+        TABLE,
+        &[[2, 20], [4, 40], [6, 60], [8, 80]],
+        "I 0 2 8 4 0  answer 1 0
+         I 0 2 8 8 0  answer 1 0
+         I 0 2 8 5 0  answer 0 0",
+        &[[2, 20], [6, 60]],
+    );
+}
+
+#[test]
+fn commit_of_modify_replaces_the_value() {
+    assert_committed_rows(
+        TABLE,
+        &[[2, 20], [4, 40]],
+        "I 0 2 11 4 41  answer 1 0
+         I 0 2 11 5 51  answer 0 0",
+        &[[2, 20], [4, 41]],
+    );
+}
+
+#[test]
+fn commit_of_lookup_and_size_changes_no_row() {
+    assert_committed_rows(TABLE, &[[2, 20]], "I 0 2 9 2 0  answer 1 20\n I 0 2 10 0 0  answer 1 1", &[[2, 20]]);
+}
+
+#[test]
+fn commit_fills_and_empties_all_64_rows() {
+    for object in [STACK, SET, TABLE] {
+        let mut desk = begun();
+        desk.fill_object(0, object);
+        desk.follow("F 0  committed 0");
+        let full: Vec<[u32; 2]> = (0..64).map(|key| [key, 0]).collect();
+        desk.assert_store(&empty().rows(object, &full));
+
+        desk.follow("B 0  ok");
+        let removal = [2, 5, 8][object];
+        for key in 0..64 {
+            assert!(desk.say(&format!("I 0 {object} {removal} {key} 0")).starts_with("answer 1 "));
+        }
+        desk.follow("F 0  committed 0");
+        desk.assert_store(&empty());
+    }
+}
+
+#[test]
+fn cancel_closes_the_log_up() {
+    let mut desk = desk();
+    desk.follow(
+        "B 0           ok
+         B 1           ok
+         B 2           ok
+         I 0 0 1 7 0   answer 1 0
+         I 1 0 1 8 0   answer 1 0
+         I 2 0 1 9 0   answer 1 0
+         I 1 2 7 5 50  answer 1 0
+         I 0 1 4 4 0   answer 1 0
+         C 1           cancelled",
+    );
+    let left = [[0, 0, 1, 7, 0, 1, 0], [2, 0, 1, 9, 0, 1, 0], [0, 1, 4, 4, 0, 1, 0]];
+    desk.assert_store(&empty().active(&[0, 2]).log(&left));
+}
+
+#[test]
+fn commit_carries_rows_and_keeps_later_entries() {
+    let mut desk = desk();
+    desk.follow(
+        "B 0           ok
+         B 1           ok
+         I 0 0 1 7 0   answer 1 0
+         I 1 0 1 8 0   answer 1 0
+         I 0 2 7 5 50  answer 1 0
+         I 1 2 7 4 40  answer 1 0
+         F 0           committed 0",
+    );
+    let left = [[1, 0, 1, 8, 0, 1, 0], [1, 2, 7, 4, 40, 1, 0]];
+    desk.assert_store(&empty().rows(STACK, &[[7, 0]]).rows(TABLE, &[[5, 50]]).active(&[1]).log(&left));
+}
+
+#[test]
+fn cancel_keeps_what_others_entered_since() {
+    let mut desk = desk();
+    desk.follow(
+        "B 0           ok
+         I 0 0 1 7 0   answer 1 0
+         B 1           ok
+         I 1 2 7 5 50  answer 1 0
+         F 1           committed 1
+         C 0           cancelled",
+    );
+    desk.assert_store(&empty().rows(TABLE, &[[5, 50]]));
+}
+
+#[test]
+fn finished_writes_the_rank_alone() {
+    let mut desk = desk();
+    desk.follow(
+        "B 9          ok
+         B 5          ok
+         B 3          ok
+         I 9 0 1 1 0  answer 1 0
+         I 5 0 1 2 0  answer 1 0
+         I 3 0 1 3 0  answer 1 0
+         F 5          finished
+         F 3          finished",
+    );
+    let log = [[9, 0, 1, 1, 0, 1, 0], [5, 0, 1, 2, 0, 1, 0], [3, 0, 1, 3, 0, 1, 0]];
+    desk.assert_store(&empty().active(&[9]).pseudo_committed(&[5, 3]).log(&log));
+    assert_eq!(desk.list, [BLANK; 64]);
+}
+
+#[test]
+fn ready_transactions_commit_by_rank_and_not_by_number() {
+    let mut desk = desk();
+    desk.follow(
+        "B 9          ok
+         B 5          ok
+         B 3          ok
+         I 9 0 1 1 0  answer 1 0
+         I 9 3 1 1 0  answer 1 0
+         I 5 0 1 2 0  answer 1 0
+         I 3 3 1 3 0  answer 1 0
+         F 5          finished
+         F 3          finished
+         F 9          committed 9 5 3",
+    );
+    desk.assert_store(&empty().rows(STACK, &[[1, 0], [2, 0]]).rows(3, &[[1, 0], [3, 0]]));
+}
+
+/// 0, of rank 0, depends on 1, of rank 1, which depends on 9 as 2, of rank 2, does: once 1 has committed, 0 is ready
+/// before 2.
+#[test]
+fn readiness_is_tried_again_from_the_lowest_rank_after_each_commit() {
+    let mut desk = Desk::of(&[1, 1, 1]);
+    desk.follow(
+        "B 0          ok
+         B 1          ok
+         B 2          ok
+         B 9          ok
+         I 1 0 1 1 0  answer 1 0
+         I 0 0 1 0 0  answer 1 0
+         I 9 1 1 9 0  answer 1 0
+         I 1 1 1 1 0  answer 1 0
+         I 9 2 1 9 0  answer 1 0
+         I 2 2 1 2 0  answer 1 0
+         F 0          finished
+         F 1          finished
+         F 2          finished
+         F 9          committed 9 1 0 2",
+    );
+    let rows = [[[1, 0], [0, 0]], [[9, 0], [1, 0]], [[9, 0], [2, 0]]];
+    desk.assert_store(&Store::of(&[1, 1, 1]).rows(0, &rows[0]).rows(1, &rows[1]).rows(2, &rows[2]));
+}
+
+#[test]
+fn ranks_close_up() {
+    let mut desk = Desk::of(&[1, 1]);
+    desk.follow(
+        "B 10           ok
+         B 11           ok
+         B 2            ok
+         B 1            ok
+         B 0            ok
+         I 10 0 1 10 0  answer 1 0
+         I 11 1 1 11 0  answer 1 0
+         I 2 0 1 2 0    answer 1 0
+         I 1 1 1 1 0    answer 1 0
+         I 0 0 1 0 0    answer 1 0
+         F 2            finished
+         F 1            finished
+         F 0            finished
+         C 11           cancelled 1",
+    );
+    let log = [[10, 0, 1, 10, 0, 1, 0], [2, 0, 1, 2, 0, 1, 0], [0, 0, 1, 0, 0, 1, 0]];
+    desk.assert_store(&Store::of(&[1, 1]).rows(1, &[[1, 0]]).active(&[10]).pseudo_committed(&[2, 0]).log(&log));
+}
+
+#[test]
+fn all_64_transactions_commit_by_one_call() {
+    let mut desk = desk();
+    for transaction in 0..64 {
+        desk.follow(&format!("B {transaction}  ok"));
+    }
+    for transaction in (0..64).rev() {
+        desk.follow(&format!("I {transaction} 0 1 {transaction} 0  answer 1 0"));
+    }
+    for transaction in 0..63 {
+        desk.follow(&format!("F {transaction}  finished"));
+    }
+    let descending: Vec<u8> = (0..64).rev().collect();
+    assert_eq!(desk.say("F 63").split(' ').count(), 65);
+    assert_eq!(desk.list, descending);
+    desk.assert_store(&empty().rows(STACK, &(0..64).rev().map(|item| [item, 0]).collect::<Vec<_>>()));
+}
+
+#[test]
+fn pseudo_committed_ones_are_never_aborted_by_the_end_of_another() {
+    let mut desk = desk();
+    desk.follow(
+        "B 0          ok
+         B 1          ok
+         I 0 0 1 7 0  answer 1 0
+         I 1 0 1 9 0  answer 1 0
+         F 1          finished
+         C 0          cancelled 1",
+    );
+    desk.assert_store(&empty().rows(STACK, &[[9, 0]]));
+}
+
+#[test]
+fn cancel_lists_none_where_others_still_depend() {
+    let mut desk = Desk::of(&[1, 1]);
+    desk.follow(
+        "B 0          ok
+         B 1          ok
+         B 2          ok
+         I 0 0 1 7 0  answer 1 0
+         I 1 0 1 8 0  answer 1 0
+         I 2 0 1 9 0  answer 1 0
+         F 2          finished
+         C 0          cancelled
+         C 1          cancelled 2",
+    );
+    desk.assert_store(&Store::of(&[1, 1]).rows(0, &[[9, 0]]));
+}
+
+#[test]
+fn finish_depends_on_earlier_entries_only() {
+    let mut desk = desk();
+    desk.follow(
+        "B 0          ok
+         B 1          ok
+         I 0 0 1 7 0  answer 1 0
+         I 1 0 1 9 0  answer 1 0
+         F 0          committed 0
+         F 1          committed 1",
+    );
+}
+
+#[test]
+fn operations_on_other_objects_never_depend() {
+    begun().follow(
+        "B 1          ok
+         I 0 0 1 7 0  answer 1 0
+         I 1 3 1 9 0  answer 1 0
+         F 1          committed 1",
+    );
+}
+
+#[test]
+fn own_entries_never_count() {
+    begun().follow(
+        "I 0 0 1 7 0   answer 1 0
+         I 0 0 2 0 0   answer 1 7
+         I 0 0 3 0 0   answer 0 0
+         I 0 1 4 4 0   answer 1 0
+         I 0 1 5 4 0   answer 1 0
+         I 0 2 7 5 50  answer 1 0
+         I 0 2 10 0 0  answer 1 1
+         I 0 2 9 5 0   answer 1 50
+         F 0           committed 0",
+    );
+}
+
+#[test]
+fn own_entries_do_not_hide_those_of_others() {
+    begun().follow(
+        "B 1          ok
+         I 0 0 1 7 0  answer 1 0
+         I 1 0 1 8 0  answer 1 0
+         I 1 0 2 0 0  wait 0",
+    );
+}
+
+#[test]
+fn wait_names_the_owner_of_the_earliest_entry_in_conflict() {
+    let mut desk = desk();
+    desk.follow(
+        "B 0          ok
+         B 1          ok
+         B 2          ok
+         B 3          ok
+         I 0 1 6 6 0  answer 0 0
+         I 2 1 4 4 0  answer 1 0
+         I 1 1 4 4 0  answer 1 0
+         I 0 1 4 5 0  answer 1 0",
+    );
+    let before = desk.store.clone();
+    desk.follow("I 3 1 5 4 0  wait 2");
+    assert_same_words(&desk.store, &before);
+    desk.follow(
+        "F 2          committed 2
+         I 3 1 5 4 0  wait 1
+         C 1          cancelled
+         I 3 1 5 4 0  answer 1 0",
+    );
+}
+
+#[test]
+fn wait_is_for_pseudo_committed_ones_too() {
+    begun().follow(
+        "B 1          ok
+         B 2          ok
+         I 0 0 1 7 0  answer 1 0
+         I 1 0 1 8 0  answer 1 0
+         I 1 1 4 4 0  answer 1 0
+         F 1          finished
+         I 2 1 6 4 0  wait 1",
+    );
+}
+
+#[test]
+fn wait_ends_with_the_owner() {
+    begun().follow(
+        "B 1           ok
+         I 0 2 7 5 50  answer 1 0
+         I 1 2 7 6 60  answer 1 0
+         I 0 2 7 6 61  wait 1
+         F 1           committed 1
+         I 0 2 7 6 61  answer 0 0
+         I 0 2 10 0 0  answer 1 2",
+    );
+}
+
+#[test]
+fn modifies_of_one_key_commit_in_the_order_entered() {
+    let mut desk = Desk::on(empty().rows(TABLE, &[[5, 50]]));
+    desk.follow(
+        "B 0            ok
+         B 1            ok
+         I 0 2 11 5 51  answer 1 0
+         I 1 2 11 5 52  answer 1 0
+         I 1 2 9 5 0    wait 0
+         F 1            finished
+         I 0 2 9 5 0    wait 1
+         F 0            committed 0 1",
+    );
+    desk.assert_store(&empty().rows(TABLE, &[[5, 52]]));
+}
+
+#[test]
+fn number_is_used_again_as_a_new_transaction() {
+    let mut desk = desk();
+    desk.follow(
+        "B 0          ok
+         B 1          ok
+         I 0 0 1 7 0  answer 1 0
+         I 1 0 1 8 0  answer 1 0
+         C 0          cancelled
+         B 0          ok
+         F 1          committed 1
+         F 0          committed 0
+         B 0          ok
+         I 0 0 3 0 0  answer 1 8",
+    );
+    desk.assert_store(&empty().rows(STACK, &[[8, 0]]).active(&[0]).log(&[[0, 0, 3, 0, 0, 1, 8]]));
+}
+
+/// Has transactions push in the order given, each pair on a stack of its own: the second comes to depend on the first.
+fn desk_with_dependencies(dependencies: &[(u32, u32)]) -> Desk {
+    let mut desk = Desk::of(&[1; 16]);
+    for transaction in 0..10 {
+        desk.follow(&format!("B {transaction}  ok"));
+    }
+    for (stack, &(dependent, on)) in dependencies.iter().enumerate() {
+        desk.follow(&format!(
+            "I {on} {stack} 1 {on} 0  answer 1 0\n I {dependent} {stack} 1 {dependent} 0  answer 1 0"
+        ));
+    }
+    desk
+}
+
+#[test]
+fn cycle_of_two_is_a_circle_only_when_the_other_is_pseudo_committed() {
+    desk_with_dependencies(&[(0, 1), (1, 0)]).follow(
+        "F 0  finished
+         F 1  circle 0",
+    );
+}
+
+#[test]
+fn cycle_of_three_aborts_the_last_to_finish() {
+    desk_with_dependencies(&[(0, 1), (1, 2), (2, 0)]).follow(
+        "F 0  finished
+         F 1  finished
+         F 2  circle 1 0",
+    );
+}
+
+#[test]
+fn cycle_through_an_active_one_is_no_circle() {
+    desk_with_dependencies(&[(0, 1), (1, 2), (2, 0)]).follow(
+        "F 0  finished
+         F 2  finished
+         C 1  cancelled 0 2",
+    );
+}
+
+#[test]
+fn depending_on_a_cycle_is_no_circle() {
+    desk_with_dependencies(&[(0, 1), (1, 0), (2, 0)]).follow(
+        "F 0  finished
+         F 2  finished
+         F 1  circle 0 2",
+    );
+}
+
+#[test]
+fn being_depended_on_by_a_cycle_is_no_circle() {
+    desk_with_dependencies(&[(0, 1), (1, 0), (0, 2), (2, 3)]).follow(
+        "F 0  finished
+         F 2  finished
+         F 1  circle
+         F 3  committed 3 2 0",
+    );
+}
+
+#[test]
+fn circle_where_one_of_two_cycles_is_through_an_active_one() {
+    desk_with_dependencies(&[(0, 1), (1, 0), (0, 2), (2, 0)]).follow(
+        "F 0  finished
+         F 1  circle
+         F 2  circle 0",
+    );
+}
+
+#[test]
+fn long_cycle_is_found() {
+    let mut cycle: Vec<(u32, u32)> = (0..9).map(|transaction| (transaction, transaction + 1)).collect();
+    cycle.push((9, 0));
+    let mut desk = desk_with_dependencies(&cycle);
+    for transaction in [4, 8, 0, 2, 6, 1, 3, 7, 5] {
+        desk.follow(&format!("F {transaction}  finished"));
+    }
+    desk.follow("F 9  circle 8 7 6 5 4 3 2 1 0");
+}
+
+#[test]
+fn circle_strikes_out_what_it_did() {
+    let mut desk = Desk::of(&[1, 1]);
+    desk.follow(
+        "B 0          ok
+         B 1          ok
+         I 0 0 1 1 0  answer 1 0
+         I 1 0 1 2 0  answer 1 0
+         I 1 1 1 3 0  answer 1 0
+         I 0 1 1 4 0  answer 1 0
+         F 1          finished
+         F 0          circle 1",
+    );
+    desk.assert_store(&Store::of(&[1, 1]).rows(0, &[[2, 0]]).rows(1, &[[3, 0]]));
+}
+
+#[test]
+fn list_keeps_its_bytes_past_the_count() {
+    for length in [64, 65, 80] {
+        for (call, expected) in [("F 9", [9, 1, 2]), ("C 9", [1, 2, BLANK])] {
+            let mut desk = desk_with_dependencies(&[(1, 9), (2, 9)]);
+            desk.follow("F 1  finished\n F 2  finished");
+            desk.list = vec![BLANK; length];
+            desk.say(call);
+            assert_eq!(desk.list[..3], expected);
+            assert_eq!(desk.list[3..], vec![BLANK; length - 3]);
+        }
+    }
+}
+
+#[test]
+fn circle_writes_the_front_of_the_list_alone() {
+    let mut desk = desk_with_dependencies(&[(0, 1), (1, 0)]);
+    desk.follow("F 0  finished");
+    desk.list = (100..180).collect();
+    desk.follow("F 1  circle 0");
+    assert_eq!(desk.list[0], 0);
+    assert_eq!(desk.list[1..], (101..180).collect::<Vec<u8>>());
+}
+
+#[test]
+fn contents_hands_back_the_rows_in_the_store_itself() {
+    let rows = [[4, 40], [8, 80]];
+    let store = empty().rows(STACK, &[[7, 0], [6, 0]]).rows(SET, &[[3, 0]]).rows(TABLE, &rows).words;
+    for (object, expected) in [(STACK, &[7, 0, 6, 0][..]), (SET, &[3, 0]), (TABLE, &[4, 40, 8, 80]), (3, &[])] {
+        let part = contents(&store, object as u32);
+        assert_eq!(part, expected);
+        assert_eq!(part.as_ptr(), store[row_word(object, 0)..].as_ptr());
+        assert_eq!(contents_count(&store, object as u32), Ok(expected.len() / 2));
+    }
+}
+
+#[test]
+fn contents_shows_what_is_committed_alone() {
+    let mut desk = begun();
+    desk.follow(
+        "B 1          ok
+         I 1 0 1 7 0  answer 1 0
+         I 0 0 1 8 0  answer 1 0
+         F 0          finished",
+    );
+    assert_eq!(contents(&desk.store, 0), []);
+    assert_eq!(contents_count(&desk.store, 0), Ok(0));
+    desk.follow("F 1  committed 1 0");
+    assert_eq!(contents(&desk.store, 0), [7, 0, 8, 0]);
+    assert_eq!(contents_count(&desk.store, 0), Ok(2));
+}
+
+#[test]
+fn contents_of_64_rows() {
+    let rows: Vec<[u32; 2]> = (0..64).map(|key| [key, 100 + key]).collect();
+    let store = empty().rows(TABLE, &rows).words;
+    assert_eq!(contents(&store, 2), rows.concat());
+    assert_eq!(contents_count(&store, 2), Ok(64));
+}
+
+#[test]
+fn last_object_is_15() {
+    let mut desk = Desk::of(&[]);
+    assert_eq!(contents_count(&desk.store, 15), Err(Refusal::Object));
+    assert_eq!(calls::set_up(&mut desk.store, &[1; 16]), Ok(Reply::Ok));
+    desk.follow(
+        "B 0           ok
+         I 0 15 1 7 0  answer 1 0
+         I 0 14 1 8 0  answer 1 0
+         F 0           committed 0",
+    );
+    desk.assert_store(&Store::of(&[1; 16]).rows(14, &[[8, 0]]).rows(15, &[[7, 0]]));
+}

@@ -1,0 +1,156 @@
+//! The protocol in the paper's words, read off a store in the plainest way: what must be said to a call.
+
+use std::collections::BTreeSet;
+
+use reference::call::Call;
+use reference::rules::{commutes, recoverable};
+use reference::soundness::sound;
+
+use super::{
+    entry_word, kind_word, row_count_word, status_word, Entry, LIST_LENGTH, LOG_LIMIT, ROW_LIMIT, UNREDUCED, WORDS,
+};
+
+/// Pairs of transactions, the first of which depends on the second.
+type Dependencies = BTreeSet<(u32, u32)>;
+
+/// What the script program must print for a call on any store, but `answer` for every answer.
+pub fn expected(store: &[u32], call: &Call, list_length: usize) -> String {
+    let refusal = first_refusal(store, call, list_length);
+    refusal.map_or_else(|| reply(store, call), |number| format!("refused {number}"))
+}
+
+fn first_refusal(store: &[u32], call: &Call, list_length: usize) -> Option<u32> {
+    match *call {
+        _ if store.len() != WORDS => Some(1),
+        Call::Finish { .. } | Call::Cancel { .. } if list_length < LIST_LENGTH => Some(2),
+        Call::SetUp { ref kinds } => (kinds.len() != 16 || kinds.iter().any(|&kind| kind > 3)).then_some(3),
+        _ if !sound(store) => Some(4),
+        Call::Begin { transaction } if transaction > 63 => Some(5),
+        Call::Begin { transaction } => (status(store, transaction) != 0).then_some(6),
+        Call::Finish { transaction } | Call::Cancel { transaction } => not_active(store, transaction),
+        Call::Operate { transaction, object, operation, .. } => {
+            not_active(store, transaction).or_else(|| no_operation(store, object, operation))
+        }
+    }
+}
+
+/// What must be said to a call that is not refused.
+fn reply(store: &[u32], call: &Call) -> String {
+    match *call {
+        Call::SetUp { .. } | Call::Begin { .. } => "ok".to_string(),
+        Call::Operate { transaction, object, operation, key, .. } => {
+            let request = (operation, if operation < 4 { key } else { key % UNREDUCED });
+            let in_the_way =
+                |&&[owner, _, logged, key, ..]: &&Entry| owner != transaction && !recoverable(request, (logged, key));
+            let first = entries_on(store, object).iter().find(in_the_way).map(|entry| entry[0]);
+            first.map_or_else(|| "answer".to_string(), |owner| format!("wait {owner}"))
+        }
+        Call::Finish { transaction } => finish(store, transaction),
+        Call::Cancel { transaction } => with_list("cancelled", &commits_after(store, transaction)),
+    }
+}
+
+fn finish(store: &[u32], transaction: u32) -> String {
+    let dependencies = dependencies(store);
+    let commits = commits_after(store, transaction);
+    if on_circle(&dependencies, transaction, &pseudo_committed(store)) {
+        with_list("circle", &commits)
+    } else if dependencies.iter().any(|&(dependent, _)| dependent == transaction) {
+        "finished".to_string()
+    } else {
+        with_list("committed", &[vec![transaction], commits].concat())
+    }
+}
+
+fn with_list(word: &str, list: &[u32]) -> String {
+    list.iter().fold(word.to_string(), |line, transaction| format!("{line} {transaction}"))
+}
+
+fn not_active(store: &[u32], transaction: u32) -> Option<u32> {
+    if transaction > 63 {
+        Some(5)
+    } else {
+        (status(store, transaction) != 1).then_some(7)
+    }
+}
+
+fn no_operation(store: &[u32], object: u32, operation: u32) -> Option<u32> {
+    let kind = if object > 15 { 0 } else { store[kind_word(object as usize)] };
+    let (operations, adding) = match kind {
+        0 => return Some(8),
+        1 => (1..=3, 1),
+        2 => (4..=6, 4),
+        _ => (7..=11, 7),
+    };
+    let logged = entries_on(store, object).iter().filter(|entry| entry[2] == adding).count();
+    let added = store[row_count_word(object as usize)] as usize + logged;
+    if !operations.contains(&operation) {
+        Some(9)
+    } else if entries(store).count() == LOG_LIMIT {
+        Some(10)
+    } else {
+        (operation == adding && added >= ROW_LIMIT).then_some(11)
+    }
+}
+
+fn status(store: &[u32], transaction: u32) -> u32 {
+    store[status_word(transaction as usize)]
+}
+
+fn entries(store: &[u32]) -> impl Iterator<Item = Entry> + '_ {
+    (0..store[0] as usize).map(|entry| store[entry_word(entry)..entry_word(entry + 1)].try_into().expect("seven words"))
+}
+
+fn entries_on(store: &[u32], object: u32) -> Vec<Entry> {
+    entries(store).filter(|entry| entry[1] == object).collect()
+}
+
+/// The pseudo-committed transactions, lowest rank first.
+pub fn pseudo_committed(store: &[u32]) -> Vec<u32> {
+    let mut transactions: Vec<u32> = (0..64).filter(|&transaction| status(store, transaction) > 1).collect();
+    transactions.sort_by_key(|&transaction| status(store, transaction));
+    transactions
+}
+
+fn dependencies(store: &[u32]) -> Dependencies {
+    let mut dependencies = Dependencies::new();
+    for object in 0..16 {
+        let entries = entries_on(store, object);
+        for (index, later) in entries.iter().enumerate() {
+            let earlier = entries[..index].iter().filter(|earlier| earlier[0] != later[0]);
+            let against = earlier.filter(|earlier| !commutes((later[2], later[3]), (earlier[2], earlier[3])));
+            dependencies.extend(against.map(|earlier| (later[0], earlier[0])));
+        }
+    }
+    dependencies
+}
+
+/// Whether a transaction lies on a circle of dependency whose other members are all pseudo-committed.
+fn on_circle(dependencies: &Dependencies, transaction: u32, pseudo_committed: &[u32]) -> bool {
+    let mut reached = BTreeSet::from([transaction]);
+    loop {
+        let steps = dependencies.iter().filter(|(dependent, on)| reached.contains(dependent) && !reached.contains(on));
+        let next: Vec<u32> = steps.map(|&(_, on)| on).filter(|on| pseudo_committed.contains(on)).collect();
+        if next.is_empty() {
+            return dependencies.iter().any(|&(dependent, on)| on == transaction && reached.contains(&dependent));
+        }
+        reached.extend(next);
+    }
+}
+
+/// Those that commit, in order, once a transaction has ended.
+fn commits_after(store: &[u32], ended: u32) -> Vec<u32> {
+    let mut dependencies = dependencies(store);
+    dependencies.retain(|&(_, on)| on != ended);
+    let mut waiting = pseudo_committed(store);
+    let mut committed = Vec::new();
+    let ready = |waiting: &[u32], dependencies: &Dependencies| {
+        waiting.iter().position(|&transaction| dependencies.iter().all(|&(dependent, _)| dependent != transaction))
+    };
+    while let Some(place) = ready(&waiting, &dependencies) {
+        let transaction = waiting.remove(place);
+        dependencies.retain(|&(_, on)| on != transaction);
+        committed.push(transaction);
+    }
+    committed
+}

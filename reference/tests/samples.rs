@@ -1,0 +1,165 @@
+//! The paper's whole case and samples, through the script program.
+
+mod common;
+
+use common::{assert_printed, printed};
+use reference::rules::{commutes, recoverable};
+
+const PUSH: u32 = 1;
+const INSERT: u32 = 7;
+const LOOKUP: u32 = 9;
+const SIZE: u32 = 10;
+const MODIFY: u32 = 11;
+
+#[test]
+fn whole_case() {
+    assert_printed(
+        "S 1 2 3         ok
+         B 0             ok
+         B 1             ok
+         I 0 0 1 7 0     answer 1 0
+         I 1 0 1 9 0     answer 1 0
+         I 1 0 3 0 0     wait 0
+         F 1             finished
+         F 0             committed 0 1
+         B 2             ok
+         I 2 0 2 0 0     answer 1 9
+         C 2             cancelled",
+    );
+}
+
+/// Asserts what one transaction's operations are answered, on an empty stack 0, set 1 and table 2.
+fn assert_answers(operations: &str) {
+    assert_printed(&format!("S 1 2 3  ok\n B 0  ok\n {operations}"));
+}
+
+#[test]
+fn p1_pop_of_an_empty_stack() {
+    assert_answers("I 0 0 2 0 0  answer 0 0");
+}
+
+#[test]
+fn p2_push_then_top() {
+    assert_answers(
+        "I 0 0 1 7 0  answer 1 0
+         I 0 0 3 0 0  answer 1 7",
+    );
+}
+
+#[test]
+fn p3_set_insert_twice() {
+    assert_answers(
+        "I 0 1 4 4 0  answer 1 0
+         I 0 1 4 4 0  answer 1 0",
+    );
+}
+
+#[test]
+fn p4_set_delete_of_an_absent_key() {
+    assert_answers("I 0 1 5 4 0  answer 0 0");
+}
+
+#[test]
+fn p5_table_insert_twice() {
+    assert_answers(
+        "I 0 2 7 5 1  answer 1 0
+         I 0 2 7 5 2  answer 0 0",
+    );
+}
+
+#[test]
+fn p6_modify_of_an_absent_key() {
+    assert_answers("I 0 2 11 5 1  answer 0 0");
+}
+
+#[test]
+fn p7_keys_are_reduced() {
+    assert_answers(
+        "I 0 2 7 16777221 3  answer 1 0
+         I 0 2 9 5 0         answer 1 3",
+    );
+}
+
+#[test]
+fn p8_size_against_modify_and_insert() {
+    assert!(recoverable((SIZE, 0), (MODIFY, 5)));
+    assert!(!recoverable((SIZE, 0), (INSERT, 5)));
+    assert_printed(
+        "S 3             ok
+         B 0             ok
+         B 1             ok
+         I 0 0 11 5 1    answer 0 0
+         I 1 0 10 0 0    answer 1 0
+         I 0 0 7 6 1     answer 1 0
+         I 1 0 10 0 0    wait 0",
+    );
+}
+
+#[test]
+fn p9_lookup_against_modify() {
+    assert!(recoverable((LOOKUP, 5), (MODIFY, 6)));
+    assert!(!recoverable((LOOKUP, 5), (MODIFY, 5)));
+    assert_printed(
+        "S 3             ok
+         B 0             ok
+         B 1             ok
+         I 0 0 11 6 1    answer 0 0
+         I 1 0 9 5 0     answer 0 0
+         I 1 0 9 6 0     wait 0",
+    );
+}
+
+#[test]
+fn p10_push_against_push() {
+    assert!(recoverable((PUSH, 7), (PUSH, 9)));
+    assert!(!commutes((PUSH, 7), (PUSH, 9)));
+    assert_printed(
+        "S 1             ok
+         B 0             ok
+         B 1             ok
+         I 0 0 1 7 0     answer 1 0
+         I 1 0 1 9 0     answer 1 0
+         F 1             finished",
+    );
+}
+
+#[test]
+fn transaction_63_is_taken_and_64_refused() {
+    assert_printed(
+        "S      ok
+         B 63   ok
+         B 64   refused 5",
+    );
+}
+
+/// Asserts that a line is taken so many times and then refused, after a set up of one stack and a begin.
+fn assert_taken(line: &str, times: usize, answer: &str, refusal: &str) {
+    let input = format!("S 1\nB 0\n{}", format!("{line}\n").repeat(times + 1));
+    let expected = format!("ok\nok\n{}{refusal}\n", format!("{answer}\n").repeat(times));
+    assert_eq!(printed(input.as_bytes()), expected);
+}
+
+#[test]
+fn log_takes_256_entries() {
+    assert_taken("I 0 0 3 0 0", 256, "answer 0 0", "refused 10");
+}
+
+#[test]
+fn stack_takes_64_pushes() {
+    assert_taken("I 0 0 1 7 0", 64, "answer 1 0", "refused 11");
+}
+
+#[test]
+fn circle_over_two_stacks() {
+    assert_printed(
+        "S 1 1           ok
+         B 0             ok
+         B 1             ok
+         I 0 0 1 1 0     answer 1 0
+         I 1 0 1 2 0     answer 1 0
+         I 1 1 1 3 0     answer 1 0
+         I 0 1 1 4 0     answer 1 0
+         F 0             finished
+         F 1             circle 0",
+    );
+}
