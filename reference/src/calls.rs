@@ -46,7 +46,7 @@ pub fn operate(store: &mut [u32], transaction: u32, object: u32, operation: u32,
     if log::length(store) == ENTRIES {
         return Err(Refusal::LogFull);
     }
-    let replay = replays.of(store, object);
+    let mut replay = replays.take(store, object);
     if !replay.has_room_for(operation) {
         return Err(Refusal::RowsFull);
     }

@@ -74,17 +74,28 @@ impl Analysis {
     }
 }
 
-/// Objects as the log leaves them, copied from the store only when first asked for.
-pub(crate) struct Replays([Option<Replay>; OBJECTS]);
+/// Objects as the log leaves them, copied from the store only when first asked for, and no space cleared before that.
+pub(crate) struct Replays(Option<[Option<Replay>; OBJECTS]>);
 
 impl Replays {
     pub fn none() -> Replays {
-        const NONE: Option<Replay> = None;
-        Replays([NONE; OBJECTS])
+        Replays(None)
     }
 
-    pub fn of(&mut self, store: &Words, object: usize) -> &mut Replay {
-        self.0[object].get_or_insert_with(|| Replay::new(layout::object(store, object)))
+    fn cleared() -> [Option<Replay>; OBJECTS] {
+        const NONE: Option<Replay> = None;
+        [NONE; OBJECTS]
+    }
+
+    fn of(&mut self, store: &Words, object: usize) -> &mut Replay {
+        let replays = self.0.get_or_insert_with(Replays::cleared);
+        replays[object].get_or_insert_with(|| Replay::new(layout::object(store, object)))
+    }
+
+    /// Takes the object out.
+    pub fn take(&mut self, store: &Words, object: usize) -> Replay {
+        let replay = self.0.as_mut().and_then(|replays| replays[object].take());
+        replay.unwrap_or_else(|| Replay::new(layout::object(store, object)))
     }
 }
 
