@@ -122,7 +122,7 @@ fn serve_table(rows: &mut BTreeMap<u32, u32>, operation: u32, key: u32, value: u
     }
 }
 
-/// The objects of a desk.
+/// The objects of a scheduler.
 #[derive(Clone, Debug, PartialEq, Eq)]
 pub struct Objects(Vec<Object>);
 
@@ -192,7 +192,7 @@ impl fmt::Display for Altered {
 
 impl std::error::Error for Altered {}
 
-/// What calls and their replies tell of a desk.
+/// What calls and their replies tell of a scheduler.
 #[derive(Clone, Debug)]
 pub struct History {
     empty: Objects,
@@ -205,7 +205,7 @@ pub struct History {
 }
 
 impl History {
-    /// The history of a desk that was just set up.
+    /// The history of a scheduler that was just set up.
     pub fn new(kinds: &[u8]) -> Self {
         History { empty: Objects::new(kinds), live: BTreeSet::new(), uncommitted: Vec::new(), committed: Vec::new() }
     }

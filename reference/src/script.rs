@@ -60,13 +60,13 @@ fn number(field: &[u8]) -> Option<u32> {
 /// Serves a whole script from a store of zeros: one line out for each line in. What was read is answered before more
 /// is waited for.
 pub fn run(mut input: impl Read, output: impl Write) -> io::Result<()> {
-    let mut desk = Desk::new(output);
+    let mut interpreter = Interpreter::new(output);
     let mut block = vec![0; BLOCK];
     loop {
-        desk.output.flush()?;
+        interpreter.output.flush()?;
         match input.read(&mut block) {
-            Ok(0) => return desk.close(),
-            Ok(length) => desk.take(&block[..length])?,
+            Ok(0) => return interpreter.close(),
+            Ok(length) => interpreter.take(&block[..length])?,
             Err(error) if error.kind() == ErrorKind::Interrupted => {}
             Err(error) => return Err(error),
         }
@@ -74,16 +74,16 @@ pub fn run(mut input: impl Read, output: impl Write) -> io::Result<()> {
 }
 
 /// A store that answers bytes of a script.
-struct Desk<W: Write> {
+struct Interpreter<W: Write> {
     store: [u32; WORDS],
     list: [u8; TRANSACTIONS],
     line: Line,
     output: BufWriter<W>,
 }
 
-impl<W: Write> Desk<W> {
-    fn new(output: W) -> Desk<W> {
-        Desk {
+impl<W: Write> Interpreter<W> {
+    fn new(output: W) -> Interpreter<W> {
+        Interpreter {
             store: [0; WORDS],
             list: [0; TRANSACTIONS],
             line: Line::new(),

@@ -2,7 +2,7 @@
 
 mod common;
 
-use common::{assert_same_words, row_word, Desk, Store, BLANK, UNREDUCED, WORDS};
+use common::{assert_same_words, row_word, Entry, Scheduler, Store, BLANK, UNREDUCED, WORDS};
 use reference::calls::{self, contents, contents_count};
 use reference::{Refusal, Reply};
 
@@ -11,21 +11,21 @@ const SET: usize = 1;
 const TABLE: usize = 2;
 const KINDS: [u32; 4] = [1, 2, 3, 1];
 
-/// A desk with a stack 0, a set 1, a table 2 and a second stack 3.
-fn desk() -> Desk {
-    Desk::of(&[1, 2, 3, 1])
+/// A scheduler with a stack 0, a set 1, a table 2 and a second stack 3.
+fn scheduler() -> Scheduler {
+    Scheduler::of(&[1, 2, 3, 1])
 }
 
-/// The store of such a desk, when empty.
+/// The store of such a scheduler, when empty.
 fn empty() -> Store {
     Store::of(&KINDS)
 }
 
-/// A desk on which transaction 0 is active.
-fn begun() -> Desk {
-    let mut desk = desk();
-    desk.follow("B 0  ok");
-    desk
+/// A scheduler on which transaction 0 is active.
+fn begun() -> Scheduler {
+    let mut scheduler = scheduler();
+    scheduler.follow("B 0  ok");
+    scheduler
 }
 
 #[test]
@@ -38,90 +38,111 @@ fn set_up_writes_an_empty_store_over_anything() {
 
 #[test]
 fn begin_writes_the_status() {
-    let mut desk = desk();
-    desk.follow("B 63  ok\n B 0  ok");
-    desk.assert_store(&empty().active(&[0, 63]));
+    let mut scheduler = scheduler();
+    scheduler.follow("B 63  ok\n B 0  ok");
+    scheduler.assert_store(&empty().active(&[0, 63]));
+}
+
+/// Asserts the replies to operations of transaction 0, alone at an empty scheduler, and the log they leave.
+fn assert_entered(operations: &str, entries: &[Entry]) {
+    let mut scheduler = begun();
+    scheduler.follow(operations);
+    scheduler.assert_store(&empty().active(&[0]).log(entries));
 }
 
 #[test]
-fn operations_are_entered_with_unused_arguments_zero() {
-    let mut desk = begun();
-    desk.follow(
-        "I 0 0 1 4294967295 9         answer 1 0
-         I 0 0 3 8 9                  answer 1 4294967295
-         I 0 0 2 8 9                  answer 1 4294967295
-         I 0 0 2 8 9                  answer 0 0
-         I 0 0 3 8 9                  answer 0 0
-         I 0 1 4 4 9                  answer 1 0
-         I 0 1 4 4 9                  answer 1 0
-         I 0 1 6 4 9                  answer 1 0
-         I 0 1 5 4 9                  answer 1 0
-         I 0 1 5 4 9                  answer 0 0
-         I 0 1 6 4 9                  answer 0 0
-         I 0 2 11 5 1                 answer 0 0
-         I 0 2 7 5 4294967295         answer 1 0
-         I 0 2 7 5 2                  answer 0 0
-         I 0 2 9 5 9                  answer 1 4294967295
-         I 0 2 11 5 3                 answer 1 0
-         I 0 2 9 5 9                  answer 1 3
-         I 0 2 10 8 9                 answer 1 1
-         I 0 2 8 5 9                  answer 1 0
-         I 0 2 8 5 9                  answer 0 0
-         I 0 2 9 5 9                  answer 0 0
-         I 0 2 10 8 9                 answer 1 0",
+fn stack_operations_are_entered_with_unused_arguments_zero() {
+    assert_entered(
+        "I 0 0 1 4294967295 9   answer 1 0
+         I 0 0 3 8 9            answer 1 4294967295
+         I 0 0 2 8 9            answer 1 4294967295
+         I 0 0 2 8 9            answer 0 0
+         I 0 0 3 8 9            answer 0 0",
+        &[
+            [0, 0, 1, u32::MAX, 0, 1, 0],
+            [0, 0, 3, 0, 0, 1, u32::MAX],
+            [0, 0, 2, 0, 0, 1, u32::MAX],
+            [0, 0, 2, 0, 0, 0, 0],
+            [0, 0, 3, 0, 0, 0, 0],
+        ],
     );
-    desk.assert_store(&empty().active(&[0]).log(&[
-        [0, 0, 1, u32::MAX, 0, 1, 0],
-        [0, 0, 3, 0, 0, 1, u32::MAX],
-        [0, 0, 2, 0, 0, 1, u32::MAX],
-        [0, 0, 2, 0, 0, 0, 0],
-        [0, 0, 3, 0, 0, 0, 0],
-        [0, 1, 4, 4, 0, 1, 0],
-        [0, 1, 4, 4, 0, 1, 0],
-        [0, 1, 6, 4, 0, 1, 0],
-        [0, 1, 5, 4, 0, 1, 0],
-        [0, 1, 5, 4, 0, 0, 0],
-        [0, 1, 6, 4, 0, 0, 0],
-        [0, 2, 11, 5, 1, 0, 0],
-        [0, 2, 7, 5, u32::MAX, 1, 0],
-        [0, 2, 7, 5, 2, 0, 0],
-        [0, 2, 9, 5, 0, 1, u32::MAX],
-        [0, 2, 11, 5, 3, 1, 0],
-        [0, 2, 9, 5, 0, 1, 3],
-        [0, 2, 10, 0, 0, 1, 1],
-        [0, 2, 8, 5, 0, 1, 0],
-        [0, 2, 8, 5, 0, 0, 0],
-        [0, 2, 9, 5, 0, 0, 0],
-        [0, 2, 10, 0, 0, 1, 0],
-    ]));
 }
 
 #[test]
-fn keys_lose_the_makers_mark_and_items_keep_it() {
-    let mut desk = begun();
-    desk.follow(
+fn set_operations_are_entered_with_unused_arguments_zero() {
+    assert_entered(
+        "I 0 1 4 4 9   answer 1 0
+         I 0 1 4 4 9   answer 1 0
+         I 0 1 6 4 9   answer 1 0
+         I 0 1 5 4 9   answer 1 0
+         I 0 1 5 4 9   answer 0 0
+         I 0 1 6 4 9   answer 0 0",
+        &[
+            [0, 1, 4, 4, 0, 1, 0],
+            [0, 1, 4, 4, 0, 1, 0],
+            [0, 1, 6, 4, 0, 1, 0],
+            [0, 1, 5, 4, 0, 1, 0],
+            [0, 1, 5, 4, 0, 0, 0],
+            [0, 1, 6, 4, 0, 0, 0],
+        ],
+    );
+}
+
+#[test]
+fn table_operations_are_entered_with_unused_arguments_zero() {
+    assert_entered(
+        "I 0 2 11 5 1            answer 0 0
+         I 0 2 7 5 4294967295    answer 1 0
+         I 0 2 7 5 2             answer 0 0
+         I 0 2 9 5 9             answer 1 4294967295
+         I 0 2 11 5 3            answer 1 0
+         I 0 2 9 5 9             answer 1 3
+         I 0 2 10 8 9            answer 1 1
+         I 0 2 8 5 9             answer 1 0
+         I 0 2 8 5 9             answer 0 0
+         I 0 2 9 5 9             answer 0 0
+         I 0 2 10 8 9            answer 1 0",
+        &[
+            [0, 2, 11, 5, 1, 0, 0],
+            [0, 2, 7, 5, u32::MAX, 1, 0],
+            [0, 2, 7, 5, 2, 0, 0],
+            [0, 2, 9, 5, 0, 1, u32::MAX],
+            [0, 2, 11, 5, 3, 1, 0],
+            [0, 2, 9, 5, 0, 1, 3],
+            [0, 2, 10, 0, 0, 1, 1],
+            [0, 2, 8, 5, 0, 1, 0],
+            [0, 2, 8, 5, 0, 0, 0],
+            [0, 2, 9, 5, 0, 0, 0],
+            [0, 2, 10, 0, 0, 1, 0],
+        ],
+    );
+}
+
+#[test]
+fn keys_are_reduced_and_items_are_not() {
+    assert_entered(
         "I 0 0 1 16777221 0       answer 1 0
          I 0 1 4 16777221 0       answer 1 0
          I 0 1 6 4278190085 0     answer 1 0
          I 0 2 7 4294967295 6     answer 1 0
          I 0 2 9 16777215 0       answer 1 6
          I 0 2 11 33554431 8      answer 1 0",
+        &[
+            [0, 0, 1, UNREDUCED + 5, 0, 1, 0],
+            [0, 1, 4, 5, 0, 1, 0],
+            [0, 1, 6, 5, 0, 1, 0],
+            [0, 2, 7, UNREDUCED - 1, 6, 1, 0],
+            [0, 2, 9, UNREDUCED - 1, 0, 1, 6],
+            [0, 2, 11, UNREDUCED - 1, 8, 1, 0],
+        ],
     );
-    desk.assert_store(&empty().active(&[0]).log(&[
-        [0, 0, 1, UNREDUCED + 5, 0, 1, 0],
-        [0, 1, 4, 5, 0, 1, 0],
-        [0, 1, 6, 5, 0, 1, 0],
-        [0, 2, 7, UNREDUCED - 1, 6, 1, 0],
-        [0, 2, 9, UNREDUCED - 1, 0, 1, 6],
-        [0, 2, 11, UNREDUCED - 1, 8, 1, 0],
-    ]));
 }
 
-/// Asserts the rows of an object once transaction 0, alone at the desk, has made the operations and committed.
+/// Asserts the rows of an object once transaction 0, alone at the scheduler, has made the operations and committed.
 fn assert_committed_rows(object: usize, before: &[[u32; 2]], operations: &str, after: &[[u32; 2]]) {
-    let mut desk = Desk::on(empty().rows(object, before).active(&[0]));
-    desk.follow(&format!("{operations}\n F 0  committed 0"));
-    desk.assert_store(&empty().rows(object, after));
+    let mut scheduler = Scheduler::on(empty().rows(object, before).active(&[0]));
+    scheduler.follow(&format!("{operations}\n F 0  committed 0"));
+    scheduler.assert_store(&empty().rows(object, after));
 }
 
 #[test]
@@ -237,26 +258,26 @@ fn commit_of_lookup_and_size_changes_no_row() {
 #[test]
 fn commit_fills_and_empties_all_64_rows() {
     for object in [STACK, SET, TABLE] {
-        let mut desk = begun();
-        desk.fill_object(0, object);
-        desk.follow("F 0  committed 0");
+        let mut scheduler = begun();
+        scheduler.fill_object(0, object);
+        scheduler.follow("F 0  committed 0");
         let full: Vec<[u32; 2]> = (0..64).map(|key| [key, 0]).collect();
-        desk.assert_store(&empty().rows(object, &full));
+        scheduler.assert_store(&empty().rows(object, &full));
 
-        desk.follow("B 0  ok");
+        scheduler.follow("B 0  ok");
         let removal = [2, 5, 8][object];
         for key in 0..64 {
-            assert!(desk.say(&format!("I 0 {object} {removal} {key} 0")).starts_with("answer 1 "));
+            assert!(scheduler.say(&format!("I 0 {object} {removal} {key} 0")).starts_with("answer 1 "));
         }
-        desk.follow("F 0  committed 0");
-        desk.assert_store(&empty());
+        scheduler.follow("F 0  committed 0");
+        scheduler.assert_store(&empty());
     }
 }
 
 #[test]
 fn cancel_closes_the_log_up() {
-    let mut desk = desk();
-    desk.follow(
+    let mut scheduler = scheduler();
+    scheduler.follow(
         "B 0           ok
          B 1           ok
          B 2           ok
@@ -268,13 +289,13 @@ fn cancel_closes_the_log_up() {
          C 1           cancelled",
     );
     let left = [[0, 0, 1, 7, 0, 1, 0], [2, 0, 1, 9, 0, 1, 0], [0, 1, 4, 4, 0, 1, 0]];
-    desk.assert_store(&empty().active(&[0, 2]).log(&left));
+    scheduler.assert_store(&empty().active(&[0, 2]).log(&left));
 }
 
 #[test]
 fn commit_carries_rows_and_keeps_later_entries() {
-    let mut desk = desk();
-    desk.follow(
+    let mut scheduler = scheduler();
+    scheduler.follow(
         "B 0           ok
          B 1           ok
          I 0 0 1 7 0   answer 1 0
@@ -284,13 +305,13 @@ fn commit_carries_rows_and_keeps_later_entries() {
          F 0           committed 0",
     );
     let left = [[1, 0, 1, 8, 0, 1, 0], [1, 2, 7, 4, 40, 1, 0]];
-    desk.assert_store(&empty().rows(STACK, &[[7, 0]]).rows(TABLE, &[[5, 50]]).active(&[1]).log(&left));
+    scheduler.assert_store(&empty().rows(STACK, &[[7, 0]]).rows(TABLE, &[[5, 50]]).active(&[1]).log(&left));
 }
 
 #[test]
 fn cancel_keeps_what_others_entered_since() {
-    let mut desk = desk();
-    desk.follow(
+    let mut scheduler = scheduler();
+    scheduler.follow(
         "B 0           ok
          I 0 0 1 7 0   answer 1 0
          B 1           ok
@@ -298,13 +319,13 @@ fn cancel_keeps_what_others_entered_since() {
          F 1           committed 1
          C 0           cancelled",
     );
-    desk.assert_store(&empty().rows(TABLE, &[[5, 50]]));
+    scheduler.assert_store(&empty().rows(TABLE, &[[5, 50]]));
 }
 
 #[test]
 fn finished_writes_the_rank_alone() {
-    let mut desk = desk();
-    desk.follow(
+    let mut scheduler = scheduler();
+    scheduler.follow(
         "B 9          ok
          B 5          ok
          B 3          ok
@@ -315,14 +336,14 @@ fn finished_writes_the_rank_alone() {
          F 3          finished",
     );
     let log = [[9, 0, 1, 1, 0, 1, 0], [5, 0, 1, 2, 0, 1, 0], [3, 0, 1, 3, 0, 1, 0]];
-    desk.assert_store(&empty().active(&[9]).pseudo_committed(&[5, 3]).log(&log));
-    assert_eq!(desk.list, [BLANK; 64]);
+    scheduler.assert_store(&empty().active(&[9]).pseudo_committed(&[5, 3]).log(&log));
+    assert_eq!(scheduler.list, [BLANK; 64]);
 }
 
 #[test]
 fn ready_transactions_commit_by_rank_and_not_by_number() {
-    let mut desk = desk();
-    desk.follow(
+    let mut scheduler = scheduler();
+    scheduler.follow(
         "B 9          ok
          B 5          ok
          B 3          ok
@@ -334,15 +355,15 @@ fn ready_transactions_commit_by_rank_and_not_by_number() {
          F 3          finished
          F 9          committed 9 5 3",
     );
-    desk.assert_store(&empty().rows(STACK, &[[1, 0], [2, 0]]).rows(3, &[[1, 0], [3, 0]]));
+    scheduler.assert_store(&empty().rows(STACK, &[[1, 0], [2, 0]]).rows(3, &[[1, 0], [3, 0]]));
 }
 
 /// 0, of rank 0, depends on 1, of rank 1, which depends on 9 as 2, of rank 2, does: once 1 has committed, 0 is ready
 /// before 2.
 #[test]
 fn readiness_is_tried_again_from_the_lowest_rank_after_each_commit() {
-    let mut desk = Desk::of(&[1, 1, 1]);
-    desk.follow(
+    let mut scheduler = Scheduler::of(&[1, 1, 1]);
+    scheduler.follow(
         "B 0          ok
          B 1          ok
          B 2          ok
@@ -359,13 +380,13 @@ fn readiness_is_tried_again_from_the_lowest_rank_after_each_commit() {
          F 9          committed 9 1 0 2",
     );
     let rows = [[[1, 0], [0, 0]], [[9, 0], [1, 0]], [[9, 0], [2, 0]]];
-    desk.assert_store(&Store::of(&[1, 1, 1]).rows(0, &rows[0]).rows(1, &rows[1]).rows(2, &rows[2]));
+    scheduler.assert_store(&Store::of(&[1, 1, 1]).rows(0, &rows[0]).rows(1, &rows[1]).rows(2, &rows[2]));
 }
 
 #[test]
 fn ranks_close_up() {
-    let mut desk = Desk::of(&[1, 1]);
-    desk.follow(
+    let mut scheduler = Scheduler::of(&[1, 1]);
+    scheduler.follow(
         "B 10           ok
          B 11           ok
          B 2            ok
@@ -382,31 +403,31 @@ fn ranks_close_up() {
          C 11           cancelled 1",
     );
     let log = [[10, 0, 1, 10, 0, 1, 0], [2, 0, 1, 2, 0, 1, 0], [0, 0, 1, 0, 0, 1, 0]];
-    desk.assert_store(&Store::of(&[1, 1]).rows(1, &[[1, 0]]).active(&[10]).pseudo_committed(&[2, 0]).log(&log));
+    scheduler.assert_store(&Store::of(&[1, 1]).rows(1, &[[1, 0]]).active(&[10]).pseudo_committed(&[2, 0]).log(&log));
 }
 
 #[test]
 fn all_64_transactions_commit_by_one_call() {
-    let mut desk = desk();
+    let mut scheduler = scheduler();
     for transaction in 0..64 {
-        desk.follow(&format!("B {transaction}  ok"));
+        scheduler.follow(&format!("B {transaction}  ok"));
     }
     for transaction in (0..64).rev() {
-        desk.follow(&format!("I {transaction} 0 1 {transaction} 0  answer 1 0"));
+        scheduler.follow(&format!("I {transaction} 0 1 {transaction} 0  answer 1 0"));
     }
     for transaction in 0..63 {
-        desk.follow(&format!("F {transaction}  finished"));
+        scheduler.follow(&format!("F {transaction}  finished"));
     }
     let descending: Vec<u8> = (0..64).rev().collect();
-    assert_eq!(desk.say("F 63").split(' ').count(), 65);
-    assert_eq!(desk.list, descending);
-    desk.assert_store(&empty().rows(STACK, &(0..64).rev().map(|item| [item, 0]).collect::<Vec<_>>()));
+    assert_eq!(scheduler.say("F 63").split(' ').count(), 65);
+    assert_eq!(scheduler.list, descending);
+    scheduler.assert_store(&empty().rows(STACK, &(0..64).rev().map(|item| [item, 0]).collect::<Vec<_>>()));
 }
 
 #[test]
 fn pseudo_committed_ones_are_never_aborted_by_the_end_of_another() {
-    let mut desk = desk();
-    desk.follow(
+    let mut scheduler = scheduler();
+    scheduler.follow(
         "B 0          ok
          B 1          ok
          I 0 0 1 7 0  answer 1 0
@@ -414,13 +435,13 @@ fn pseudo_committed_ones_are_never_aborted_by_the_end_of_another() {
          F 1          finished
          C 0          cancelled 1",
     );
-    desk.assert_store(&empty().rows(STACK, &[[9, 0]]));
+    scheduler.assert_store(&empty().rows(STACK, &[[9, 0]]));
 }
 
 #[test]
 fn cancel_lists_none_where_others_still_depend() {
-    let mut desk = Desk::of(&[1, 1]);
-    desk.follow(
+    let mut scheduler = Scheduler::of(&[1, 1]);
+    scheduler.follow(
         "B 0          ok
          B 1          ok
          B 2          ok
@@ -431,13 +452,13 @@ fn cancel_lists_none_where_others_still_depend() {
          C 0          cancelled
          C 1          cancelled 2",
     );
-    desk.assert_store(&Store::of(&[1, 1]).rows(0, &[[9, 0]]));
+    scheduler.assert_store(&Store::of(&[1, 1]).rows(0, &[[9, 0]]));
 }
 
 #[test]
 fn finish_depends_on_earlier_entries_only() {
-    let mut desk = desk();
-    desk.follow(
+    let mut scheduler = scheduler();
+    scheduler.follow(
         "B 0          ok
          B 1          ok
          I 0 0 1 7 0  answer 1 0
@@ -484,8 +505,8 @@ fn own_entries_do_not_hide_those_of_others() {
 
 #[test]
 fn wait_names_the_owner_of_the_earliest_entry_in_conflict() {
-    let mut desk = desk();
-    desk.follow(
+    let mut scheduler = scheduler();
+    scheduler.follow(
         "B 0          ok
          B 1          ok
          B 2          ok
@@ -495,10 +516,10 @@ fn wait_names_the_owner_of_the_earliest_entry_in_conflict() {
          I 1 1 4 4 0  answer 1 0
          I 0 1 4 5 0  answer 1 0",
     );
-    let before = desk.store.clone();
-    desk.follow("I 3 1 5 4 0  wait 2");
-    assert_same_words(&desk.store, &before);
-    desk.follow(
+    let before = scheduler.store.clone();
+    scheduler.follow("I 3 1 5 4 0  wait 2");
+    assert_same_words(&scheduler.store, &before);
+    scheduler.follow(
         "F 2          committed 2
          I 3 1 5 4 0  wait 1
          C 1          cancelled
@@ -534,8 +555,8 @@ fn wait_ends_with_the_owner() {
 
 #[test]
 fn modifies_of_one_key_commit_in_the_order_entered() {
-    let mut desk = Desk::on(empty().rows(TABLE, &[[5, 50]]));
-    desk.follow(
+    let mut scheduler = Scheduler::on(empty().rows(TABLE, &[[5, 50]]));
+    scheduler.follow(
         "B 0            ok
          B 1            ok
          I 0 2 11 5 51  answer 1 0
@@ -545,13 +566,13 @@ fn modifies_of_one_key_commit_in_the_order_entered() {
          I 0 2 9 5 0    wait 1
          F 0            committed 0 1",
     );
-    desk.assert_store(&empty().rows(TABLE, &[[5, 52]]));
+    scheduler.assert_store(&empty().rows(TABLE, &[[5, 52]]));
 }
 
 #[test]
 fn number_is_used_again_as_a_new_transaction() {
-    let mut desk = desk();
-    desk.follow(
+    let mut scheduler = scheduler();
+    scheduler.follow(
         "B 0          ok
          B 1          ok
          I 0 0 1 7 0  answer 1 0
@@ -563,26 +584,26 @@ fn number_is_used_again_as_a_new_transaction() {
          B 0          ok
          I 0 0 3 0 0  answer 1 8",
     );
-    desk.assert_store(&empty().rows(STACK, &[[8, 0]]).active(&[0]).log(&[[0, 0, 3, 0, 0, 1, 8]]));
+    scheduler.assert_store(&empty().rows(STACK, &[[8, 0]]).active(&[0]).log(&[[0, 0, 3, 0, 0, 1, 8]]));
 }
 
 /// Has transactions push in the order given, each pair on a stack of its own: the second comes to depend on the first.
-fn desk_with_dependencies(dependencies: &[(u32, u32)]) -> Desk {
-    let mut desk = Desk::of(&[1; 16]);
+fn scheduler_with_dependencies(dependencies: &[(u32, u32)]) -> Scheduler {
+    let mut scheduler = Scheduler::of(&[1; 16]);
     for transaction in 0..10 {
-        desk.follow(&format!("B {transaction}  ok"));
+        scheduler.follow(&format!("B {transaction}  ok"));
     }
     for (stack, &(dependent, on)) in dependencies.iter().enumerate() {
-        desk.follow(&format!(
+        scheduler.follow(&format!(
             "I {on} {stack} 1 {on} 0  answer 1 0\n I {dependent} {stack} 1 {dependent} 0  answer 1 0"
         ));
     }
-    desk
+    scheduler
 }
 
 #[test]
 fn cycle_of_two_is_a_circle_only_when_the_other_is_pseudo_committed() {
-    desk_with_dependencies(&[(0, 1), (1, 0)]).follow(
+    scheduler_with_dependencies(&[(0, 1), (1, 0)]).follow(
         "F 0  finished
          F 1  circle 0",
     );
@@ -590,7 +611,7 @@ fn cycle_of_two_is_a_circle_only_when_the_other_is_pseudo_committed() {
 
 #[test]
 fn cycle_of_three_aborts_the_last_to_finish() {
-    desk_with_dependencies(&[(0, 1), (1, 2), (2, 0)]).follow(
+    scheduler_with_dependencies(&[(0, 1), (1, 2), (2, 0)]).follow(
         "F 0  finished
          F 1  finished
          F 2  circle 1 0",
@@ -599,7 +620,7 @@ fn cycle_of_three_aborts_the_last_to_finish() {
 
 #[test]
 fn cycle_through_an_active_one_is_no_circle() {
-    desk_with_dependencies(&[(0, 1), (1, 2), (2, 0)]).follow(
+    scheduler_with_dependencies(&[(0, 1), (1, 2), (2, 0)]).follow(
         "F 0  finished
          F 2  finished
          C 1  cancelled 0 2",
@@ -608,7 +629,7 @@ fn cycle_through_an_active_one_is_no_circle() {
 
 #[test]
 fn depending_on_a_cycle_is_no_circle() {
-    desk_with_dependencies(&[(0, 1), (1, 0), (2, 0)]).follow(
+    scheduler_with_dependencies(&[(0, 1), (1, 0), (2, 0)]).follow(
         "F 0  finished
          F 2  finished
          F 1  circle 0 2",
@@ -617,7 +638,7 @@ fn depending_on_a_cycle_is_no_circle() {
 
 #[test]
 fn being_depended_on_by_a_cycle_is_no_circle() {
-    desk_with_dependencies(&[(0, 1), (1, 0), (0, 2), (2, 3)]).follow(
+    scheduler_with_dependencies(&[(0, 1), (1, 0), (0, 2), (2, 3)]).follow(
         "F 0  finished
          F 2  finished
          F 1  circle
@@ -627,7 +648,7 @@ fn being_depended_on_by_a_cycle_is_no_circle() {
 
 #[test]
 fn circle_where_one_of_two_cycles_is_through_an_active_one() {
-    desk_with_dependencies(&[(0, 1), (1, 0), (0, 2), (2, 0)]).follow(
+    scheduler_with_dependencies(&[(0, 1), (1, 0), (0, 2), (2, 0)]).follow(
         "F 0  finished
          F 1  circle
          F 2  circle 0",
@@ -638,17 +659,17 @@ fn circle_where_one_of_two_cycles_is_through_an_active_one() {
 fn long_cycle_is_found() {
     let mut cycle: Vec<(u32, u32)> = (0..9).map(|transaction| (transaction, transaction + 1)).collect();
     cycle.push((9, 0));
-    let mut desk = desk_with_dependencies(&cycle);
+    let mut scheduler = scheduler_with_dependencies(&cycle);
     for transaction in [4, 8, 0, 2, 6, 1, 3, 7, 5] {
-        desk.follow(&format!("F {transaction}  finished"));
+        scheduler.follow(&format!("F {transaction}  finished"));
     }
-    desk.follow("F 9  circle 8 7 6 5 4 3 2 1 0");
+    scheduler.follow("F 9  circle 8 7 6 5 4 3 2 1 0");
 }
 
 #[test]
 fn circle_strikes_out_what_it_did() {
-    let mut desk = Desk::of(&[1, 1]);
-    desk.follow(
+    let mut scheduler = Scheduler::of(&[1, 1]);
+    scheduler.follow(
         "B 0          ok
          B 1          ok
          I 0 0 1 1 0  answer 1 0
@@ -658,31 +679,31 @@ fn circle_strikes_out_what_it_did() {
          F 1          finished
          F 0          circle 1",
     );
-    desk.assert_store(&Store::of(&[1, 1]).rows(0, &[[2, 0]]).rows(1, &[[3, 0]]));
+    scheduler.assert_store(&Store::of(&[1, 1]).rows(0, &[[2, 0]]).rows(1, &[[3, 0]]));
 }
 
 #[test]
 fn list_keeps_its_bytes_past_the_count() {
     for length in [64, 65, 80] {
         for (call, expected) in [("F 9", [9, 1, 2]), ("C 9", [1, 2, BLANK])] {
-            let mut desk = desk_with_dependencies(&[(1, 9), (2, 9)]);
-            desk.follow("F 1  finished\n F 2  finished");
-            desk.list = vec![BLANK; length];
-            desk.say(call);
-            assert_eq!(desk.list[..3], expected);
-            assert_eq!(desk.list[3..], vec![BLANK; length - 3]);
+            let mut scheduler = scheduler_with_dependencies(&[(1, 9), (2, 9)]);
+            scheduler.follow("F 1  finished\n F 2  finished");
+            scheduler.list = vec![BLANK; length];
+            scheduler.say(call);
+            assert_eq!(scheduler.list[..3], expected);
+            assert_eq!(scheduler.list[3..], vec![BLANK; length - 3]);
         }
     }
 }
 
 #[test]
 fn circle_writes_the_front_of_the_list_alone() {
-    let mut desk = desk_with_dependencies(&[(0, 1), (1, 0)]);
-    desk.follow("F 0  finished");
-    desk.list = (100..180).collect();
-    desk.follow("F 1  circle 0");
-    assert_eq!(desk.list[0], 0);
-    assert_eq!(desk.list[1..], (101..180).collect::<Vec<u8>>());
+    let mut scheduler = scheduler_with_dependencies(&[(0, 1), (1, 0)]);
+    scheduler.follow("F 0  finished");
+    scheduler.list = (100..180).collect();
+    scheduler.follow("F 1  circle 0");
+    assert_eq!(scheduler.list[0], 0);
+    assert_eq!(scheduler.list[1..], (101..180).collect::<Vec<u8>>());
 }
 
 #[test]
@@ -699,18 +720,18 @@ fn contents_hands_back_the_rows_in_the_store_itself() {
 
 #[test]
 fn contents_shows_what_is_committed_alone() {
-    let mut desk = begun();
-    desk.follow(
+    let mut scheduler = begun();
+    scheduler.follow(
         "B 1          ok
          I 1 0 1 7 0  answer 1 0
          I 0 0 1 8 0  answer 1 0
          F 0          finished",
     );
-    assert_eq!(contents(&desk.store, 0), []);
-    assert_eq!(contents_count(&desk.store, 0), Ok(0));
-    desk.follow("F 1  committed 1 0");
-    assert_eq!(contents(&desk.store, 0), [7, 0, 8, 0]);
-    assert_eq!(contents_count(&desk.store, 0), Ok(2));
+    assert_eq!(contents(&scheduler.store, 0), []);
+    assert_eq!(contents_count(&scheduler.store, 0), Ok(0));
+    scheduler.follow("F 1  committed 1 0");
+    assert_eq!(contents(&scheduler.store, 0), [7, 0, 8, 0]);
+    assert_eq!(contents_count(&scheduler.store, 0), Ok(2));
 }
 
 #[test]
@@ -723,14 +744,14 @@ fn contents_of_64_rows() {
 
 #[test]
 fn last_object_is_15() {
-    let mut desk = Desk::of(&[]);
-    assert_eq!(contents_count(&desk.store, 15), Err(Refusal::Object));
-    assert_eq!(calls::set_up(&mut desk.store, &[1; 16]), Ok(Reply::Ok));
-    desk.follow(
+    let mut scheduler = Scheduler::of(&[]);
+    assert_eq!(contents_count(&scheduler.store, 15), Err(Refusal::Object));
+    assert_eq!(calls::set_up(&mut scheduler.store, &[1; 16]), Ok(Reply::Ok));
+    scheduler.follow(
         "B 0           ok
          I 0 15 1 7 0  answer 1 0
          I 0 14 1 8 0  answer 1 0
          F 0           committed 0",
     );
-    desk.assert_store(&Store::of(&[1; 16]).rows(14, &[[8, 0]]).rows(15, &[[7, 0]]));
+    scheduler.assert_store(&Store::of(&[1; 16]).rows(14, &[[8, 0]]).rows(15, &[[7, 0]]));
 }

@@ -11,7 +11,7 @@ use std::thread;
 use common::draws::Draws;
 use common::{
     assert_same_words, entry_word, kind_word, line_of, protocol, row_count_word, row_word, shown, sixteen, status_word,
-    Desk, LOG_LIMIT, WORDS,
+    Scheduler, LOG_LIMIT, WORDS,
 };
 use reference::call::Call;
 use reference::calls::{contents, contents_count};
@@ -266,7 +266,7 @@ fn run_list(profile: &'static Profile, seed: u64) -> Tally {
     let mut run = Run {
         profile,
         draws: Draws::new(seed),
-        store: Desk::of(&kinds).store,
+        store: Scheduler::of(&kinds).store,
         history: History::new(&kinds),
         finished: Vec::new(),
         trail: Trail { profile: profile.name, seed, calls, list_length: 0 },

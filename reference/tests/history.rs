@@ -30,7 +30,7 @@ fn outcome_of(reply: &str) -> (Outcome, Vec<u8>) {
     (outcome, list)
 }
 
-/// The history of a transcript, whether or not a right desk would reply so.
+/// The history of a transcript, whether or not a right scheduler would reply so.
 fn history_of(transcript: &str) -> History {
     let mut history = History::new(&[]);
     for (line, reply) in common::transcript_lines(transcript) {
@@ -178,7 +178,7 @@ fn answer_that_dropping_another_alters_is_told() {
 }
 
 #[test]
-fn cancelled_and_circled_ones_are_struck_out() {
+fn aborted_ones_are_struck_out() {
     for end in ["C 0  cancelled 1", "F 0  circle 1"] {
         let history = history_of(&format!(
             "S 1          ok

@@ -4,7 +4,7 @@ mod common;
 
 use std::ops::RangeInclusive;
 
-use common::{assert_printed, assert_same_words, Desk, Store, BLANK, LIST_LENGTH, WORDS};
+use common::{assert_printed, assert_same_words, Scheduler, Store, BLANK, LIST_LENGTH, WORDS};
 use reference::call::Call;
 use reference::calls::{contents, contents_count};
 
@@ -73,16 +73,16 @@ fn assert_refusal(call: &Call, store: &[u32], list_length: usize, expected: Opti
 
 /// Objects 0 to 2 are a stack, a set and a table, 3 is a stack on which 1 depends on 0, 4 has no kind. 0 is active, 1
 /// pseudo-committed, the others absent.
-fn desk() -> Desk {
-    let mut desk = Desk::of(&[1, 2, 3, 1]);
-    desk.follow(
+fn scheduler() -> Scheduler {
+    let mut scheduler = Scheduler::of(&[1, 2, 3, 1]);
+    scheduler.follow(
         "B 0          ok
          B 1          ok
          I 0 3 1 7 0  answer 1 0
          I 1 3 1 8 0  answer 1 0
          F 1          finished",
     );
-    desk
+    scheduler
 }
 
 const ACTIVE: u32 = 0;
@@ -111,7 +111,7 @@ fn numbers_are_those_of_the_paper() {
 
 #[test]
 fn set_up_tries_1_3() {
-    let desk = desk();
+    let scheduler = scheduler();
     let kinds = |length: usize, odd: u8| {
         let mut kinds = vec![1; length];
         if let Some(last) = kinds.last_mut() {
@@ -120,7 +120,7 @@ fn set_up_tries_1_3() {
         kinds
     };
     for spoilt in SPOILT {
-        let store = spoilt.store(&desk.store);
+        let store = spoilt.store(&scheduler.store);
         for length in [0, 1, 15, 16, 17, 64] {
             for odd in [0, 3, 4, 255] {
                 let call = Call::SetUp { kinds: kinds(length, odd) };
@@ -133,9 +133,9 @@ fn set_up_tries_1_3() {
 
 #[test]
 fn begin_tries_1_4_5_6() {
-    let desk = desk();
+    let scheduler = scheduler();
     for spoilt in SPOILT {
-        let store = spoilt.store(&desk.store);
+        let store = spoilt.store(&scheduler.store);
         for transaction in TRANSACTIONS {
             let expected = first_of(&[
                 (1, !spoilt.has_length()),
@@ -150,9 +150,9 @@ fn begin_tries_1_4_5_6() {
 
 #[test]
 fn finish_and_cancel_try_1_2_4_5_7() {
-    let desk = desk();
+    let scheduler = scheduler();
     for spoilt in SPOILT {
-        let store = spoilt.store(&desk.store);
+        let store = spoilt.store(&scheduler.store);
         for list_length in [0, 1, 63, 64, 65, 80] {
             for transaction in TRANSACTIONS {
                 let expected = first_of(&[
@@ -170,19 +170,19 @@ fn finish_and_cancel_try_1_2_4_5_7() {
     }
 }
 
-/// A desk on which the log, objects 0 to 2, or both are full or not; all by transaction 0.
-fn desk_filled(log_full: bool, objects_full: bool) -> Desk {
-    let mut desk = desk();
+/// A scheduler on which the log, objects 0 to 2, or both are full or not; all by transaction 0.
+fn scheduler_filled(log_full: bool, objects_full: bool) -> Scheduler {
+    let mut scheduler = scheduler();
     if objects_full {
-        (0..3).for_each(|object| desk.fill_object(0, object));
+        (0..3).for_each(|object| scheduler.fill_object(0, object));
     }
     if log_full {
-        desk.fill_log(0, 0);
+        scheduler.fill_log(0, 0);
     }
-    desk
+    scheduler
 }
 
-/// The operation numbers of an object of `desk`, and which of them adds.
+/// The operation numbers of an object of `scheduler`, and which of them adds.
 fn operations(object: u32) -> (RangeInclusive<u32>, u32) {
     match object {
         0 => (1..=3, 1),
@@ -194,9 +194,9 @@ fn operations(object: u32) -> (RangeInclusive<u32>, u32) {
 #[test]
 fn operate_tries_1_4_5_7_8_9_10_11() {
     for (log_full, objects_full) in [(false, false), (false, true), (true, false), (true, true)] {
-        let desk = desk_filled(log_full, objects_full);
+        let scheduler = scheduler_filled(log_full, objects_full);
         for spoilt in SPOILT {
-            let store = spoilt.store(&desk.store);
+            let store = spoilt.store(&scheduler.store);
             for transaction in TRANSACTIONS {
                 for object in (0..3).chain(OBJECTS_REFUSED) {
                     let (own, adding) = operations(object);
@@ -222,9 +222,9 @@ fn operate_tries_1_4_5_7_8_9_10_11() {
 
 #[test]
 fn contents_and_its_twin_try_1_4_8() {
-    let desk = desk();
+    let scheduler = scheduler();
     for spoilt in SPOILT {
-        let store = spoilt.store(&desk.store);
+        let store = spoilt.store(&scheduler.store);
         for object in (0..4).chain(OBJECTS_REFUSED) {
             let expected = first_of(&[(1, !spoilt.has_length()), (4, !spoilt.is_sound()), (8, object > 3)]);
             let count = contents_count(&store, object);
@@ -247,51 +247,51 @@ fn contents_refused_is_empty_though_there_are_rows() {
 
 #[test]
 fn wait_is_decided_after_refusal_10() {
-    let mut desk = desk();
-    desk.follow("B 2  ok\n I 0 0 1 7 0  answer 1 0\n I 2 0 2 0 0  wait 0");
-    desk.fill_log(0, 0);
-    desk.follow("I 2 0 2 0 0  refused 10");
+    let mut scheduler = scheduler();
+    scheduler.follow("B 2  ok\n I 0 0 1 7 0  answer 1 0\n I 2 0 2 0 0  wait 0");
+    scheduler.fill_log(0, 0);
+    scheduler.follow("I 2 0 2 0 0  refused 10");
 }
 
 #[test]
 fn wait_is_decided_after_refusal_11() {
-    let mut desk = desk();
-    desk.follow("B 2  ok\n I 0 2 7 5 1  answer 1 0\n I 2 2 7 5 2  wait 0");
-    desk.fill_object(0, 2);
-    desk.follow("I 2 2 7 5 2  refused 11\n I 2 2 9 5 0  wait 0");
+    let mut scheduler = scheduler();
+    scheduler.follow("B 2  ok\n I 0 2 7 5 1  answer 1 0\n I 2 2 7 5 2  wait 0");
+    scheduler.fill_object(0, 2);
+    scheduler.follow("I 2 2 7 5 2  refused 11\n I 2 2 9 5 0  wait 0");
 }
 
 #[test]
 fn refusal_11_holds_where_the_key_is_there() {
     let rows: Vec<[u32; 2]> = (0..64).map(|key| [key, 0]).collect();
     for (kind, insert, look) in [(2, 4, 6), (3, 7, 9)] {
-        let mut desk = Desk::on(Store::of(&[kind]).rows(0, &rows).active(&[0]));
-        desk.follow(&format!("I 0 0 {insert} 5 0  refused 11"));
-        assert!(desk.say(&format!("I 0 0 {look} 5 0")).starts_with("answer 1 "));
+        let mut scheduler = Scheduler::on(Store::of(&[kind]).rows(0, &rows).active(&[0]));
+        scheduler.follow(&format!("I 0 0 {insert} 5 0  refused 11"));
+        assert!(scheduler.say(&format!("I 0 0 {look} 5 0")).starts_with("answer 1 "));
     }
 }
 
 #[test]
 fn refusal_11_counts_pushes_and_inserts_whatever_became_of_them() {
     for (kind, add, take) in [(1, 1, 2), (2, 4, 5), (3, 7, 8)] {
-        let mut desk = Desk::of(&[kind]);
-        desk.follow("B 0  ok\n B 1  ok");
+        let mut scheduler = Scheduler::of(&[kind]);
+        scheduler.follow("B 0  ok\n B 1  ok");
         for _ in 0..32 {
-            desk.follow(&format!("I 0 0 {add} 5 0  answer 1 0"));
-            assert!(desk.say(&format!("I 0 0 {take} 5 0")).starts_with("answer 1 "));
+            scheduler.follow(&format!("I 0 0 {add} 5 0  answer 1 0"));
+            assert!(scheduler.say(&format!("I 0 0 {take} 5 0")).starts_with("answer 1 "));
         }
         for _ in 0..32 {
-            assert!(desk.say(&format!("I 1 0 {add} 6 0")).starts_with("answer "));
+            assert!(scheduler.say(&format!("I 1 0 {add} 6 0")).starts_with("answer "));
         }
-        desk.follow(&format!("I 0 0 {add} 7 0  refused 11\n I 1 0 {add} 8 0  refused 11"));
-        desk.follow(&format!("C 0  cancelled\n I 1 0 {add} 8 0  answer 1 0"));
+        scheduler.follow(&format!("I 0 0 {add} 7 0  refused 11\n I 1 0 {add} 8 0  refused 11"));
+        scheduler.follow(&format!("C 0  cancelled\n I 1 0 {add} 8 0  answer 1 0"));
     }
 }
 
 #[test]
 fn refusal_11_ends_when_rows_are_taken_away_and_committed() {
-    let mut desk = Desk::on(Store::of(&[1]).rows(0, &[[7, 0]; 64]).active(&[0]));
-    desk.follow(
+    let mut scheduler = Scheduler::on(Store::of(&[1]).rows(0, &[[7, 0]; 64]).active(&[0]));
+    scheduler.follow(
         "I 0 0 1 9 0  refused 11
          I 0 0 2 0 0  answer 1 7
          I 0 0 1 9 0  refused 11
@@ -304,10 +304,10 @@ fn refusal_11_ends_when_rows_are_taken_away_and_committed() {
 
 #[test]
 fn refusal_10_ends_when_entries_leave_the_log() {
-    let mut desk = desk();
-    desk.follow("B 2  ok\n I 2 1 6 9 0  answer 0 0");
-    desk.fill_log(0, 0);
-    desk.follow(
+    let mut scheduler = scheduler();
+    scheduler.follow("B 2  ok\n I 2 1 6 9 0  answer 0 0");
+    scheduler.fill_log(0, 0);
+    scheduler.follow(
         "I 0 0 3 0 0  refused 10
          C 2          cancelled
          I 0 0 3 0 0  answer 0 0
@@ -317,8 +317,8 @@ fn refusal_10_ends_when_entries_leave_the_log() {
 
 #[test]
 fn refusal_6_ends_with_the_transaction() {
-    let mut desk = desk();
-    desk.follow("B 0  refused 6\n C 0  cancelled 1\n C 1  refused 7\n B 0  ok\n B 1  ok");
+    let mut scheduler = scheduler();
+    scheduler.follow("B 0  refused 6\n C 0  cancelled 1\n C 1  refused 7\n B 0  ok\n B 1  ok");
 }
 
 #[test]

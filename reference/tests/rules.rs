@@ -2,7 +2,7 @@
 
 mod common;
 
-use common::{entry_word, Desk};
+use common::{entry_word, Scheduler};
 use reference::history::{Answer, Objects};
 use reference::rules::{commutes, recoverable};
 use reference::soundness::sound;
@@ -131,14 +131,14 @@ fn calls_wait_and_depend_as_listed() {
     for (Pair { kind, requested, logged, recoverable, commuting }, mark) in
         [0, 7 << 24].into_iter().flat_map(|mark| pairs().into_iter().map(move |pair| (pair, mark)))
     {
-        let mut desk = Desk::of(&[kind]);
-        desk.follow("B 0  ok\n B 1  ok");
-        desk.say(&format!("I 0 0 {} {} 0", logged.0, logged.1));
-        let reply = desk.say(&format!("I 1 0 {} {} 0", requested.0, requested.1 + mark));
+        let mut scheduler = Scheduler::of(&[kind]);
+        scheduler.follow("B 0  ok\n B 1  ok");
+        scheduler.say(&format!("I 0 0 {} {} 0", logged.0, logged.1));
+        let reply = scheduler.say(&format!("I 1 0 {} {} 0", requested.0, requested.1 + mark));
         let expected = if recoverable { "answer " } else { "wait 0" };
         assert!(reply.starts_with(expected), "{requested:?} against {logged:?}: {reply}");
         let expected = if recoverable && !commuting { "finished" } else { "committed 1" };
-        assert_eq!(desk.say("F 1"), expected, "{requested:?} after {logged:?}");
+        assert_eq!(scheduler.say("F 1"), expected, "{requested:?} after {logged:?}");
     }
 }
 
@@ -146,12 +146,12 @@ fn calls_wait_and_depend_as_listed() {
 #[test]
 fn stores_are_sound_as_listed() {
     for Pair { kind, requested, logged, recoverable, .. } in pairs() {
-        let mut desk = Desk::of(&[kind]);
-        desk.follow("B 0  ok\n B 1  ok");
-        desk.say(&format!("I 0 0 {} {} 0", logged.0, logged.1));
-        desk.say(&format!("I 0 0 {} {} 0", requested.0, requested.1));
-        assert!(sound(&desk.store));
-        desk.store[entry_word(1)] = 1;
-        assert_eq!(sound(&desk.store), recoverable, "{requested:?} after {logged:?}");
+        let mut scheduler = Scheduler::of(&[kind]);
+        scheduler.follow("B 0  ok\n B 1  ok");
+        scheduler.say(&format!("I 0 0 {} {} 0", logged.0, logged.1));
+        scheduler.say(&format!("I 0 0 {} {} 0", requested.0, requested.1));
+        assert!(sound(&scheduler.store));
+        scheduler.store[entry_word(1)] = 1;
+        assert_eq!(sound(&scheduler.store), recoverable, "{requested:?} after {logged:?}");
     }
 }

@@ -5,7 +5,7 @@
 mod common;
 
 use common::{
-    assert_same_words, entry_word, kind_word, row_count_word, row_word, sixteen, status_word, Desk, Entry, Store,
+    assert_same_words, entry_word, kind_word, row_count_word, row_word, sixteen, status_word, Entry, Scheduler, Store,
     BLANK, LIST_LENGTH, UNREDUCED, WORDS,
 };
 use reference::call::Call;
@@ -63,8 +63,8 @@ fn rich_with(entry: Entry) -> Store {
 
 #[test]
 fn rich_store_is_what_calls_write() {
-    let mut desk = Desk::of(&KINDS);
-    desk.follow(
+    let mut scheduler = Scheduler::of(&KINDS);
+    scheduler.follow(
         "B 9            ok
          I 9 0 1 7 0    answer 1 0
          I 9 0 1 8 0    answer 1 0
@@ -97,8 +97,8 @@ fn rich_store_is_what_calls_write() {
          I 2 2 9 6 0    answer 1 60
          I 1 1 6 9 0    answer 0 0",
     );
-    desk.assert_store(&rich());
-    assert!(sound(&desk.store));
+    scheduler.assert_store(&rich());
+    assert!(sound(&scheduler.store));
 }
 
 /// Asserts that a store is not sound, that every call but set up refuses it so, and that set up takes it.

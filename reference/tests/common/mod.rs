@@ -1,4 +1,4 @@
-//! What the tests share: stores written word by word, desks led by transcripts, a generator of draws.
+//! What the tests share: stores written word by word, schedulers led by transcripts, a generator of draws.
 
 #![allow(dead_code)] // each test file uses a part
 
@@ -176,21 +176,21 @@ pub fn assert_printed(transcript: &str) {
 }
 
 /// A store and the list lent to finish and cancel.
-pub struct Desk {
+pub struct Scheduler {
     pub store: Vec<u32>,
     pub list: Vec<u8>,
 }
 
-impl Desk {
-    /// A desk set up with the kinds given, the missing ones 0.
+impl Scheduler {
+    /// A scheduler set up with the kinds given, the missing ones 0.
     pub fn of(kinds: &[u8]) -> Self {
-        let mut desk = Desk::on(Store::zeros());
-        assert_eq!(calls::set_up(&mut desk.store, &sixteen(kinds)), Ok(Reply::Ok));
-        desk
+        let mut scheduler = Scheduler::on(Store::zeros());
+        assert_eq!(calls::set_up(&mut scheduler.store, &sixteen(kinds)), Ok(Reply::Ok));
+        scheduler
     }
 
     pub fn on(store: Store) -> Self {
-        Desk { store: store.words, list: vec![BLANK; LIST_LENGTH] }
+        Scheduler { store: store.words, list: vec![BLANK; LIST_LENGTH] }
     }
 
     /// Makes the call of a script line and says what the script program would print.
