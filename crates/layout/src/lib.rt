@@ -1,0 +1,89 @@
+// Where the parts of a book stand, and what is read there.
+use operations::Operation;
+use operations::Reply;
+ghost use mathlib.Core.Path.{_≡_};
+ghost use Prim.Native.Nat.{_+_, _<_, _≤_};
+ghost use lib.ListN.{length};
+ghost use Rattle.store.specs.Layout.{word, entryStart, objectStart};
+
+pub const WORDS: usize = 3937;
+
+pub const TRANSACTIONS: usize = 64;
+
+pub const OBJECTS: usize = 16;
+
+pub const ENTRIES: usize = 256;
+
+// The log's first word, and the words of an entry.
+pub const LOG: usize = 2145;
+
+pub const ENTRY: usize = 7;
+
+// The first object's first word, and the words of an object.
+pub const FIRST_OBJECT: usize = 65;
+
+pub const OBJECT: usize = 130;
+
+fn wide(x: u32) -> usize
+    ensures { λ r. ⌜ r ≡ x ⌝ }
+{
+    x as usize
+}
+
+pub fn entry_count(book: &[u32]) -> usize
+    requires { ⌜ length (now book) ≡ 3937 ⌝ }
+    ensures { λ r. ⌜ r ≡ word (now (book .entry)) 0 ⌝ }
+{
+    wide(book[0])
+}
+
+pub fn entry_transaction(book: &[u32], i: usize) -> u32
+    requires { ⌜ (length (now book) ≡ 3937) × (i < 256) ⌝ }
+    ensures { λ r. ⌜ r ≡ word (now (book .entry)) (entryStart i) ⌝ }
+{
+    book[LOG + ENTRY * i]
+}
+
+pub fn entry_object(book: &[u32], i: usize) -> u32
+    requires { ⌜ (length (now book) ≡ 3937) × (i < 256) ⌝ }
+    ensures { λ r. ⌜ r ≡ word (now (book .entry)) (entryStart i + 1) ⌝ }
+{
+    book[LOG + ENTRY * i + 1]
+}
+
+pub fn entry_operation(book: &[u32], i: usize) -> Operation
+    requires { ⌜ (length (now book) ≡ 3937) × (i < 256) ⌝ }
+    ensures { λ r. ⌜ (r .number ≡ word (now (book .entry)) (entryStart i + 2)) × (r .key ≡ word (now (book .entry)) (entryStart i + 3)) × (r .value ≡ word (now (book .entry)) (entryStart i + 4)) ⌝ }
+{
+    let start = LOG + ENTRY * i;
+    Operation {
+        number: book[start + 2],
+        key: book[start + 3],
+        value: book[start + 4],
+    }
+}
+
+pub fn entry_answer(book: &[u32], i: usize) -> Reply
+    requires { ⌜ (length (now book) ≡ 3937) × (i < 256) ⌝ }
+    ensures { λ r. ⌜ (r .code ≡ word (now (book .entry)) (entryStart i + 5)) × (r .value ≡ word (now (book .entry)) (entryStart i + 6)) ⌝ }
+{
+    let start = LOG + ENTRY * i;
+    Reply {
+        code: book[start + 5],
+        value: book[start + 6],
+    }
+}
+
+pub fn object_kind(book: &[u32], object: usize) -> u32
+    requires { ⌜ (length (now book) ≡ 3937) × (object < 16) ⌝ }
+    ensures { λ r. ⌜ r ≡ word (now (book .entry)) (objectStart object) ⌝ }
+{
+    book[FIRST_OBJECT + OBJECT * object]
+}
+
+pub fn row_count(book: &[u32], object: usize) -> usize
+    requires { ⌜ (length (now book) ≡ 3937) × (object < 16) ⌝ }
+    ensures { λ r. ⌜ r ≡ word (now (book .entry)) (objectStart object + 1) ⌝ }
+{
+    wide(book[FIRST_OBJECT + OBJECT * object + 1])
+}

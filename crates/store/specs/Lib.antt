@@ -1,0 +1,6 @@
+pub mod Store
+pub mod Dependency
+pub mod Layout
+pub mod Soundness
+pub mod Steps
+pub mod Laws

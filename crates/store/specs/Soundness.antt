@@ -1,0 +1,80 @@
+-- Document 01, "The book": when a book is sound, clause by clause.
+use Prim.Native.Nat.{ℕ, _≤_, _<_}
+use mathlib.Core.Path.{_≡_}
+use mathlib.Core.Option.{some}
+use mathlib.Core.List.{List}
+use Rattle.operations.specs.Operations.{Kind, kindOf, WellFormed, All, StoredKey}
+use Rattle.operations.specs.Log.{Recoverable, Answered}
+use Rattle.operations.specs.Laws.Objects.{object}
+use Rattle.store.specs.Store.{pseudoCommitted, Logged, Store, statusOf, objectOf, Live, PseudoCommitted, onObject}
+use Rattle.store.specs.Dependency.{DependsOn, OnCycle}
+use Rattle.store.specs.Layout.{Format, decode, Packed}
+
+-- An object of a kind, and what then holds of it.
+abbrev pub OfKind : (ℕ → Kind → Type 0) → Store → Type 0
+OfKind P s = (o : ℕ) (kind : Kind) → objectOf s o .kind ≡ some kind → P o kind
+
+module _ (format : Format) (s : Store) where
+  -- The rows of each object are of its kind's form.
+  abbrev pub RowsFormed : Type 0
+  RowsFormed = OfKind (λ o kind. WellFormed (format .reduce) kind (objectOf s o .rows)) s
+
+  -- Each log entry belongs to a live transaction,
+  abbrev pub EntriesLive : Type 0
+  EntriesLive = All (λ (l : Logged). Live s (l .entry .transaction)) (s .log)
+
+  -- fits its object's kind,
+  abbrev pub EntriesFit : Type 0
+  EntriesFit = All (λ (l : Logged). objectOf s (l .object) .kind ≡ some (kindOf (l .entry .operation))) (s .log)
+
+  -- and its key is reduced.
+  abbrev pub KeysReduced : Type 0
+  KeysReduced = All (λ (l : Logged). StoredKey (format .reduce) (l .entry .operation)) (s .log)
+
+  -- It is recoverable against every earlier entry of another transaction on that object.
+  abbrev pub EntriesRecoverable : Type 0
+  EntriesRecoverable = OfKind (λ o kind. Recoverable (object (format .reduce) kind) (onObject o (s .log))) s
+
+  -- Its answer is the one replay gives.
+  abbrev pub EntriesAnswered : Type 0
+  EntriesAnswered = OfKind (λ o kind. Answered (object (format .reduce) kind) (onObject o (s .log)) (objectOf s o .rows)) s
+
+  -- For each object, rows plus logged pushes and inserts are within the limit.
+  abbrev pub Room : Type 0
+  Room = (o : ℕ) → format .used s o ≤ format .limit
+
+module _ (s : Store) where
+  -- No two transactions have one rank,
+  abbrev pub OnceEach : Type 0
+  OnceEach = (t u rank : ℕ) → statusOf s t ≡ pseudoCommitted rank → statusOf s u ≡ pseudoCommitted rank → t ≡ u
+
+  -- and below each rank that is given all lower ones are: ranks are 0, 1, 2 and on.
+  abbrev pub WithoutGaps : Type 0
+  WithoutGaps = (t rank lower : ℕ) → statusOf s t ≡ pseudoCommitted rank → lower < rank → (u : ℕ) × (statusOf s u ≡ pseudoCommitted lower)
+
+  -- Pseudo-committed (finished) transactions form no cycle.
+  abbrev pub Acyclic : Type 0
+  Acyclic = (t : ℕ) → PseudoCommitted s t → OnCycle s t → ⊥
+
+  -- Each pseudo-committed transaction depends on a live one.
+  abbrev pub Dependent : Type 0
+  Dependent = (t : ℕ) → PseudoCommitted s t → (u : ℕ) × Live s u × DependsOn (s .log) t u
+
+module _ (format : Format) where
+  pub record SoundStore (s : Store) : Type 0 where
+    pub rows : RowsFormed format s
+    pub live : EntriesLive format s
+    pub fits : EntriesFit format s
+    pub reduced : KeysReduced format s
+    pub recoverable : EntriesRecoverable format s
+    pub answered : EntriesAnswered format s
+    pub room : Room format s
+    pub once : OnceEach s
+    pub gapless : WithoutGaps s
+    pub acyclic : Acyclic s
+    pub dependent : Dependent s
+
+  -- Length, ranges and zeros are said of the words, the rest of what they are read as.
+  pub record Sound (w : List ℕ) : Type 0 where
+    pub packed : Packed format w
+    pub store : SoundStore (decode format w)

@@ -1,0 +1,39 @@
+-- The changes of a store that calls are made of.
+use Prim.Native.Nat.{ℕ, _-_}
+use mathlib.Core.Bool.{cond}
+use mathlib.Core.List.{List, [], _∷_, _++_, map}
+use lib.Dec.{eqb, ltb}
+use lib.ListN.{set}
+use Rattle.operations.specs.Operations.{Operation, next}
+use Rattle.store.specs.Store.{Status, absent, active, pseudoCommitted, Object, Logged, Store, objectOf}
+
+-- An entry put last in the log.
+abbrev pub appended : Logged → Store → Store
+appended l s = record { statuses = s .statuses; objects = s .objects; log = s .log ++ (l ∷ []) }
+
+-- The log without a transaction's entries.
+abbrev pub without : ℕ → List Logged → List Logged
+without t [] = []
+without t (l ∷ log) = cond (eqb (l .entry .transaction) t) (without t log) (l ∷ without t log)
+
+abbrev pub dropped : ℕ → Store → Store
+dropped t s = record { statuses = s .statuses; objects = s .objects; log = without t (s .log) }
+
+-- An operation carried into an object's rows.
+abbrev pub carried : Operation → Object → Object
+carried o x = record { kind = x .kind; rows = next o (x .rows) }
+
+abbrev pub folded : ℕ → Operation → Store → Store
+folded object o s = record { statuses = s .statuses; objects = set (s .objects) object (carried o (objectOf s object)); log = s .log }
+
+abbrev pub withStatus : ℕ → Status → Store → Store
+withStatus t status s = record { statuses = set (s .statuses) t status; objects = s .objects; log = s .log }
+
+-- Ranks close up when one has been taken out: those above it go down by one.
+abbrev pub lowered : ℕ → Status → Status
+lowered out absent = absent
+lowered out active = active
+lowered out (pseudoCommitted rank) = pseudoCommitted (cond (ltb out rank) (rank - 1) rank)
+
+abbrev pub closedUp : ℕ → Store → Store
+closedUp out s = record { statuses = map (lowered out) (s .statuses); objects = s .objects; log = s .log }

@@ -1,0 +1,55 @@
+-- Document 01, "The book": what a book holds, as a value.
+use Prim.Native.Nat.{ℕ}
+use mathlib.Core.Path.{_≡_}
+use mathlib.Core.Bool.{cond}
+use mathlib.Core.Option.{Option, none}
+use mathlib.Core.List.{List, [], _∷_}
+use lib.Dec.{eqb}
+use lib.ListN.{getD}
+use Rattle.operations.specs.Operations.{Kind, Row, Operation, Reply}
+use Rattle.operations.specs.Log.{Entry}
+
+-- The status of a transaction (handout): absent, active (open), or pseudo-committed (finished) with its rank in the order of finishing.
+pub data Status : Type 0 where
+  absent active : Status
+  pseudoCommitted : (rank : ℕ) → Status
+
+-- An object: its kind, none for kind 0, and its committed rows.
+pub record Object : Type 0 where
+  pub kind : Option Kind
+  pub rows : List Row
+
+abbrev pub noObject : Object
+noObject = record { kind = none; rows = [] }
+
+-- A log entry and the object that it is of.
+pub record Logged : Type 0 where
+  pub object : ℕ
+  pub entry : Entry Operation Reply
+
+-- The statuses of transactions 0 to 63, objects 0 to 15, and the log, oldest entry first.
+pub record Store : Type 0 where
+  pub statuses : List Status
+  pub objects : List Object
+  pub log : List Logged
+
+abbrev pub statusOf : Store → ℕ → Status
+statusOf s t = getD (s .statuses) t absent
+
+abbrev pub objectOf : Store → ℕ → Object
+objectOf s o = getD (s .objects) o noObject
+
+-- Open or finished.
+abbrev pub Live : Store → ℕ → Type 0
+Live s t = statusOf s t ≡ absent → ⊥
+
+abbrev pub Active : Store → ℕ → Type 0
+Active s t = statusOf s t ≡ active
+
+abbrev pub PseudoCommitted : Store → ℕ → Type 0
+PseudoCommitted s t = (rank : ℕ) × (statusOf s t ≡ pseudoCommitted rank)
+
+-- The entries of one object, in order.
+abbrev pub onObject : ℕ → List Logged → List (Entry Operation Reply)
+onObject o [] = []
+onObject o (e ∷ l) = cond (eqb (e .object) o) (e .entry ∷ onObject o l) (onObject o l)

@@ -1,0 +1,1 @@
+// The store: definitions and theorems alone, in specs/.
