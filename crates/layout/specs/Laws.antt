@@ -5,6 +5,7 @@ use mathlib.Core.Bool.{true, false}
 use mathlib.Core.Logic.{_↔_}
 use mathlib.Core.List.{List, [], _∷_, _++_, map, map-append}
 use native.Mathlib.Nat.{not-suc-le-zero}
+use native.Mathlib.Numerals.{add-one}
 use native.Mathlib.Omega.{arith}
 use borrow.Author.Tests.{ltb-true, ltb-false, eqb-true, eq-eqb}
 use lib.Bits.{bitOr, bitAnd, and-le-l, and-le-r, or-add-and, or-self}
@@ -64,8 +65,9 @@ copied-start w o copy = sym (tabulate-zero (rowAt w o))
 pub copied-next : (w : List ℕ) (o i : ℕ) (copy : List (List ℕ)) (pair : List ℕ) → i < length copy → rowOf pair ≡ rowAt w o i → Copied w o copy i
     → Copied w o (set copy i pair) (i + 1)
 copied-next w o i copy pair l e c =
-    ap (map rowOf) (take-suc-set copy i pair l) ∙ map-append rowOf (take i copy) (pair ∷ [])
-    ∙ ap₂ (λ (rs : List Row) (r : Row). rs ++ (r ∷ [])) c e ∙ sym (tabulate-snoc i (rowAt w o))
+    rw (add-one i)
+    (ap (map rowOf) (take-suc-set copy i pair l) ∙ map-append rowOf (take i copy) (pair ∷ [])
+    ∙ ap₂ (λ (rs : List Row) (r : Row). rs ++ (r ∷ [])) c e ∙ sym (tabulate-snoc i (rowAt w o)))
 
 pub copied-all : (w : List ℕ) (o i n : ℕ) (copy : List (List ℕ)) → Copied w o copy i → i ≡ n → Copied w o copy n
 copied-all w o i n copy c e = subst (Copied w o copy) e c
