@@ -2,8 +2,9 @@
 use Prim.Native.Nat.{ℕ}
 use mathlib.Core.Path.{_≡_}
 use mathlib.Core.List.{List}
+use Rattle.store.specs.Store.{Store}
 use Rattle.store.specs.Layout.{encode, decode, Packed, Representable, base}
-use Rattle.store.specs.Laws.Encoding.{decoded-representable, encoded-decoded}
+use Rattle.store.specs.Laws.Encoding.{decoded-representable, encoded-decoded, decoded-encoded, encoded-packed}
 use Rattle.store.specs.Laws.Objects.{base-laid}
 
 -- A packed book is the encoding of its decoding,
@@ -13,3 +14,11 @@ encoded = encoded-decoded base base-laid
 -- which is a store that a book can hold.
 pub representable : (w : List ℕ) → Packed base w → Representable base (decode base w)
 representable = decoded-representable base base-laid
+
+-- Such a store is the decoding of its encoding,
+pub decoded : (s : Store) → Representable base s → decode base (encode base s) ≡ s
+decoded = decoded-encoded base base-laid
+
+-- which is a packed book.
+pub packed : (s : Store) → Representable base s → Packed base (encode base s)
+packed = encoded-packed base base-laid

@@ -3,7 +3,7 @@ use Prim.Native.Nat.{ℕ, zero, suc, _+_, _-_, _*_, _/_, _%_, _≤_, _<_}
 use mathlib.Core.Path.{_≡_, refl, sym, ap, _∙_, subst}
 use mathlib.Core.Bool.{true, false}
 use mathlib.Core.List.{List, [], _∷_, _++_}
-use native.Mathlib.Nat.{not-suc-le-zero, mul-zero, mul-suc, zero-mul, div-add-mod, mod-lt, lt-of-mul-lt-mul-left}
+use native.Mathlib.Nat.{not-suc-le-zero, mul-zero, mul-suc, mul-le-mul-left, zero-mul, div-add-mod, mod-lt, lt-of-mul-lt-mul-left}
 use native.Mathlib.Omega.{arith}
 use borrow.Author.Tests.{ltb-true, ltb-false}
 use lib.Dec.{ltb}
@@ -80,6 +80,11 @@ module _ {A : Type 0} (f : A → List ℕ) (k : ℕ) where
   joined-word (x ∷ xs) r d (suc i) j l m =
       let e : k * suc i + j ≡ k + (k * i + j) = omega (arith, mul-suc k i) in
       ap (word (f x ++ joined f xs)) e ∙ word-after (f x) (joined f xs) k (k * i + j) (r .0) ∙ joined-word xs (r .1) d i j (omega arith) m
+
+  pub padded-row : (size : ℕ) (xs : List A) → Rows xs → (d : A) (i j : ℕ) → i < length xs → j < k
+      → word (padded size (joined f xs)) (k * i + j) ≡ word (f (getD xs i d)) j
+  padded-row size xs r d i j l m =
+      padded-word size (joined f xs) (k * i + j) (omega (arith, joined-length xs r, mul-suc k i, mul-le-mul-left k l)) ∙ joined-word xs r d i j l m
 
   -- A place in rows is a place in one of them.
   by-row : (P : ℕ → Type 0) (n : ℕ) → ((i j : ℕ) → i < n → j < k → P (k * i + j)) → (p : ℕ) → p < k * n → P p
