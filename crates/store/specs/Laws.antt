@@ -1,3 +1,7 @@
 pub mod Lists
 pub mod Reading
 pub mod Dependencies
+pub mod Words
+pub mod Encoding
+pub mod Objects
+pub mod Empty
