@@ -1,2 +1,3 @@
 pub mod Lists
 pub mod Reading
+pub mod Ways
