@@ -173,3 +173,11 @@ pub trailing : (s : ℕ) → s < 2 ^ 64 → (s ≡ 0 → ⊥) → Lowest s (trai
 trailing s l some =
     let f = lowest-bit 64 s l some in
     record { below = member-below s (trailingZeros 64 s) l (f .0); member = f .0; least = f .1 }
+
+above-self : (n : ℕ) → n < 2 ^ n
+above-self zero = zero-lt-suc 0
+above-self (suc n) = omega (arith, pow-suc 2 n, above-self n)
+
+-- A set that is not 0 has a member.
+pub some-member : (s : ℕ) → (s ≡ 0 → ⊥) → (h : ℕ) × (has s h ≡ true)
+some-member s some = (trailingZeros s s, lowest-bit s s (above-self s) some .0)

@@ -65,7 +65,7 @@ module _ (Edge : ℕ → ℕ → Type 0) where
   widened P Q f n a b w = way-monotone Edge Edge P Q (λ x y e. e) f n n (le-refl n) a b w
 
   -- One step more.
-  onward : (P : ℕ → Type 0) (n a b c : ℕ) → Way Edge P n a b → P b → Edge b c → Way Edge P (suc n) a c
+  pub onward : (P : ℕ → Type 0) (n a b c : ℕ) → Way Edge P n a b → P b → Edge b c → Way Edge P (suc n) a c
   onward P zero a b c w p e = absurd w
   onward P (suc n) a b c (inl f) p e = inr (b, p, f, inl e)
   onward P (suc n) a b c (inr (d, q, f, w)) p e = inr (d, q, f, onward P n d b c w p e)
