@@ -15,7 +15,7 @@ fn dependencies(edges: &[u64; 64], transaction: u32) -> u64
     edges[transaction as usize]
 }
 
-// All that a way through these leads to. Each is expanded once, those not yet expanded are left.
+// All that a way from the transaction through these leads to. Each is expanded once; `left` are those not yet expanded.
 fn reached(edges: &[u64; 64], through: u64, transaction: u32) -> u64
     requires { ⌜ transaction < 64 ⌝ }
     ensures { λ r. ⌜ Reaches (now (edges .entry)) through transaction r ⌝ }

@@ -1,20 +1,19 @@
 -- Ways along the edges of a graph: a way of any length has a short one, and where each node leads on there is a cycle.
 use Prim.Native.Nat.{ℕ, zero, suc, _≤_, _<_}
-use mathlib.Core.Path.{_≡_, refl, sym, subst, _∙_}
+use mathlib.Core.Path.{_≡_, sym, subst, _∙_}
 use mathlib.Core.Logic.{_⊎_, inl, inr, ⊎-elim}
 use native.Mathlib.Nat.{not-suc-le-zero, le-of-suc-le-suc, eq-or-lt-of-le, le-refl}
-use native.Mathlib.Omega.{arith}
 use Rattle.operations.specs.Laws.Cases.{same}
 use Rattle.store.specs.Dependency.{Way, Path}
 
 -- ---- At most n numbers are such
 
 -- Such, and not c.
-abbrev pub Except : ℕ → (ℕ → Type 0) → ℕ → Type 0
+abbrev Except : ℕ → (ℕ → Type 0) → ℕ → Type 0
 Except c P x = P x × (x ≡ c → ⊥)
 
 -- Whichever is taken out, at most n - 1 are left.
-abbrev pub AtMost : ℕ → (ℕ → Type 0) → Type 0
+abbrev AtMost : ℕ → (ℕ → Type 0) → Type 0
 AtMost zero P = (c : ℕ) → P c → ⊥
 AtMost (suc n) P = (c : ℕ) → P c → AtMost n (Except c P)
 
@@ -31,17 +30,18 @@ old : (P : ℕ → Type 0) (c d : ℕ) → c ≡ d → (x : ℕ) → Except c (A
 old P c d e x (inl p, other) = p
 old P c d e x (inr f, other) = absurd (other (f ∙ sym e))
 
-apart : (P : ℕ → Type 0) (c d : ℕ) (x : ℕ) → Except c (And d P) x → And d (Except c P) x
+apart : (P : ℕ → Type 0) (c d x : ℕ) → Except c (And d P) x → And d (Except c P) x
 apart P c d x (inl p, other) = inl (p, other)
 apart P c d x (inr f, other) = inr f
 
+-- What is taken out is d or another.
+taken : (n : ℕ) (P : ℕ → Type 0) (d : ℕ) → AtMost n P → ((c : ℕ) → P c → AtMost n (And d (Except c P))) → (c : ℕ) → And d P c → AtMost n (Except c (And d P))
+taken n P d most others c (inl p) = fewer n (Except c (And d P)) (And d (Except c P)) (apart P c d) (others c p)
+taken n P d most others c (inr e) = fewer n (Except c (And d P)) P (old P c d e) most
+
 one-more : (n : ℕ) (P : ℕ → Type 0) (d : ℕ) → AtMost n P → AtMost (suc n) (And d P)
-one-more zero P d most =
-    λ (c : ℕ) (m : And d P c). ⊎-elim (λ p. absurd (most c p)) (λ e. fewer zero (Except c (And d P)) P (old P c d e) most) m
-one-more (suc n) P d most =
-    λ (c : ℕ) (m : And d P c).
-    ⊎-elim (λ p. fewer (suc n) (Except c (And d P)) (And d (Except c P)) (apart P c d) (one-more n (Except c P) d (most c p)))
-    (λ e. fewer (suc n) (Except c (And d P)) P (old P c d e) most) m
+one-more zero P d most = taken zero P d most (λ c p. absurd (most c p))
+one-more (suc n) P d most = taken (suc n) P d most (λ c p. one-more n (Except c P) d (most c p))
 
 last : (n c : ℕ) → c < suc n → And n (λ x. x < n) c
 last n c l = ⊎-elim inr inl (eq-or-lt-of-le (le-of-suc-le-suc l))
@@ -106,7 +106,7 @@ module _ (Edge : ℕ → ℕ → Type 0) where
       (first-step P (w .0) a b (w .1))
 
   -- Where each such node leads to such a node, and none to itself, there is none: those that one leads to are fewer.
-  pub endless : (n : ℕ) (P : ℕ → Type 0) → AtMost n P → ((c : ℕ) → P c → (d : ℕ) × P d × Edge c d) → ((c : ℕ) → P c → Path Edge P c c → ⊥)
+  endless : (n : ℕ) (P : ℕ → Type 0) → AtMost n P → ((c : ℕ) → P c → (d : ℕ) × P d × Edge c d) → ((c : ℕ) → P c → Path Edge P c c → ⊥)
       → (t : ℕ) → P t → ⊥
   endless zero P most next acyclic t p = most t p
   endless (suc n) P most next acyclic t p =
@@ -127,3 +127,10 @@ module _ (Edge : ℕ → ℕ → Type 0) (Through : ℕ → Type 0) (within : (c
       in
       widened Edge (Except b Through) Through (λ (c : ℕ) (t : Except b Through c). t .0) 64 a b
       (short Edge 63 (Except b Through) most a b (n, first-arrival Edge Through n a b w))
+
+  -- So such nodes that lie on no cycle, and each lead to such a node, are none.
+  pub none-lead-on : ((c : ℕ) → Through c → (d : ℕ) × Through d × Edge c d) → ((c : ℕ) → Through c → Way Edge Through 64 c c → ⊥)
+      → (t : ℕ) → Through t → ⊥
+  none-lead-on next acyclic =
+      endless Edge 64 Through (fewer 64 Through (λ c. c < 64) within (below 64)) next
+      (λ (c : ℕ) (t : Through c) (w : Path Edge Through c c). acyclic c t (shortened c c (within c t) w))
