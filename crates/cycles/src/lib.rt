@@ -68,13 +68,13 @@ pub fn ready(edges: &[u64; 64], transaction: u32) -> bool
 pub fn dependent(edges: &[u64; 64], finished: u64) -> bool
     ensures { λ r. ⌜ (r ≡ true) ↔ ((t : ℕ) → In finished t → (u : ℕ) × EdgeIn (now (edges .entry)) t u) ⌝ }
 {
-    let mut left = finished;
-    while left != 0 {
-        let transaction = bitset::lowest(left);
+    let mut remaining = finished;
+    while remaining != 0 {
+        let transaction = bitset::lowest(remaining);
         if ready(edges, transaction) {
             return false;
         }
-        left = bitset::without(left, transaction);
+        remaining = bitset::without(remaining, transaction);
     }
     true
 }

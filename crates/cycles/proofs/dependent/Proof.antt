@@ -5,10 +5,10 @@ use Rattle.cycles.proofs.dependent.Statement.{statement}
 use Rattle.cycles.proofs.dependent.Tie as tie
 
 abbrev Inv-loop : tie.InvT-loop
-Inv-loop edges finished left₀ left = Walk (Depends edges) finished left
+Inv-loop edges finished remaining₀ remaining = Walk (Depends edges) finished remaining
 
 abbrev μ-loop : tie.MeasureT-loop
-μ-loop edges finished left₀ left = left
+μ-loop edges finished remaining₀ remaining = remaining
 
 loop-holds : tie.Need-loop-holds Inv-loop μ-loop
 loop-holds c = walk-begun _ _
