@@ -5,3 +5,4 @@ pub mod Words
 pub mod Encoding
 pub mod Objects
 pub mod Empty
+pub mod Ways
