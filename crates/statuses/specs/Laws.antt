@@ -1,0 +1,4 @@
+pub mod Sets
+pub mod Words
+pub mod Ranks
+pub mod Pass

@@ -1,0 +1,63 @@
+-- What a status word says.
+use Prim.Native.Nat.{ℕ, zero, suc, _+_, _-_, _<_, _≤_}
+use mathlib.Core.Path.{_≡_, refl, sym, ap, _∙_}
+use mathlib.Core.Bool.{true, false, false≢true, _||_}
+use mathlib.Core.Logic.{_↔_, _⊎_, inl, inr}
+use mathlib.Core.List.{List}
+use native.Mathlib.Omega.{arith}
+use borrow.Author.Tests.{lt-ltb}
+use lib.Dec.{eqb, ltb}
+use Rattle.bitset.specs.Bitset.{has, Members}
+use Rattle.store.specs.Store.{absent, pseudoCommitted, Live, PseudoCommitted}
+use Rattle.store.specs.Layout.{base, decode, statusWord, readStatus, word}
+use Rattle.store.specs.Laws.Reading.{status-read, live-below}
+use Rattle.statuses.specs.declared.Ranks.{Ranks}
+use Rattle.statuses.specs.Statuses.{Noted}
+
+pub word-read : (x : ℕ) → statusWord (readStatus x) ≡ x
+word-read zero = refl
+word-read (suc zero) = refl
+word-read (suc (suc rank)) = omega arith
+
+live-word : (x : ℕ) → (ltb 0 x ≡ true) ↔ (readStatus x ≡ absent → ⊥)
+live-word zero = (λ h. absurd (false≢true h), λ p. absurd (p refl))
+live-word (suc x) = (λ h e. omega (arith, ap statusWord e, word-read (suc x)), λ p. lt-ltb 0 (suc x) (omega arith))
+
+finished-word : (x : ℕ) → (ltb 1 x ≡ true) ↔ ((rank : ℕ) × (readStatus x ≡ pseudoCommitted rank))
+finished-word zero = (λ h. absurd (false≢true h), λ p. absurd (omega (arith, ap statusWord (p .1))))
+finished-word (suc zero) = (λ h. absurd (false≢true h), λ p. absurd (omega (arith, ap statusWord (p .1))))
+finished-word (suc (suc rank)) = (λ h. (rank, refl), λ p. lt-ltb 1 (suc (suc rank)) (omega arith))
+
+module _ (w : List ℕ) (t : ℕ) (l : t < 64) where
+  pub live-test : (ltb 0 (word w (1 + t)) ≡ true) ↔ Live (decode base w) t
+  live-test = rw (status-read base w t l) (live-word (word w (1 + t)))
+
+  pub finished-test : (ltb 1 (word w (1 + t)) ≡ true) ↔ PseudoCommitted (decode base w) t
+  finished-test = rw (status-read base w t l) (finished-word (word w (1 + t)))
+
+pub finished-below : (w : List ℕ) (t : ℕ) → PseudoCommitted (decode base w) t → t < 64
+finished-below w t p = live-below base w t (λ e. omega (arith, ap statusWord (sym (p .1) ∙ e)))
+
+pub finished-read : (status : ℕ) → 2 ≤ status → readStatus status ≡ pseudoCommitted (status - 2)
+finished-read zero l = absurd (omega arith)
+finished-read (suc zero) l = absurd (omega arith)
+finished-read (suc (suc rank)) l = ap pseudoCommitted (omega arith)
+
+-- ---- Ranks with one word more
+
+module _ (ranks : Ranks) (status : ℕ) where
+  pub noted-none : status < 2 → Noted (readStatus status) ranks ranks
+  noted-none l = none status l
+    where
+      none : (x : ℕ) → x < 2 → Noted (readStatus x) ranks ranks
+      none zero m = refl
+      none (suc zero) m = refl
+      none (suc (suc rank)) m = absurd (omega arith)
+
+  module _ (l : 2 ≤ status) where
+    pub noted-again : (64 ≤ status - 2) ⊎ (has (ranks .seen) (status - 2) ≡ true) → Noted (readStatus status) ranks (record { seen = ranks .seen; once = false })
+    noted-again old = rw (finished-read status l) (inr (old, refl))
+
+    pub noted-new : (next : ℕ) → status - 2 < 64 → has (ranks .seen) (status - 2) ≡ false
+        → Members next (λ h. has (ranks .seen) h || eqb h (status - 2)) → Noted (readStatus status) ranks (record { seen = next; once = ranks .once })
+    noted-new next m new members = rw (finished-read status l) (inl (m, new, members, refl))
