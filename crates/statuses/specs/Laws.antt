@@ -2,3 +2,4 @@ pub mod Sets
 pub mod Words
 pub mod Ranks
 pub mod Pass
+pub mod Count

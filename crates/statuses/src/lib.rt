@@ -10,7 +10,7 @@ ghost use lib.Dec.{eqb};
 ghost use lib.ListN.{length};
 ghost use Rattle.bitset.specs.Bitset.{has, Members};
 ghost use Rattle.store.specs.Layout.{base, decode, readStatus, word};
-ghost use Rattle.store.specs.Store.{Live, PseudoCommitted};
+ghost use Rattle.store.specs.Store.{Live, PseudoCommitted, finishedCount};
 ghost use Rattle.store.specs.Soundness.{OnceEach, WithoutGaps};
 ghost use Rattle.statuses.specs.Statuses.{Has, Noted, Downward};
 
@@ -99,4 +99,20 @@ pub fn statuses(book: &[u32]) -> Summary
         finished: finished,
         ranked: in_order(ranks),
     }
+}
+
+// How many transactions are pseudo-committed: the rank that the next one gets.
+pub fn next_rank(book: &[u32]) -> u32
+    requires { ⌜ length (now book) ≡ 3937 ⌝ }
+    ensures { λ r. ⌜ r ≡ finishedCount (decode base (now (book .entry))) ⌝ }
+{
+    let mut count: u32 = 0;
+    let mut transaction: u32 = 0;
+    while transaction < 64 {
+        if status_word(book, transaction) > 1 {
+            count += 1;
+        }
+        transaction += 1;
+    }
+    count
 }

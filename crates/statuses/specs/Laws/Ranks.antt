@@ -19,29 +19,27 @@ use Rattle.statuses.specs.Laws.Sets.{one-more, downward}
 
 -- ---- Numbers below n have at most n values
 
-module _ (n : ℕ) (f : ℕ → ℕ) where
-  -- Each number up to n is a value of f at a place below m.
-  abbrev Onto : ℕ → Type 0
-  Onto m = (r : ℕ) → r ≤ n → (t : ℕ) × (t < m) × (f t ≡ r)
+-- r is a value of f at a place below n.
+abbrev Value : ℕ → (ℕ → ℕ) → ℕ → Type 0
+Value n f r = (t : ℕ) × (t < n) × (f t ≡ r)
 
 -- f, with the value at n where f is n + 1.
 abbrev replaced : ℕ → (ℕ → ℕ) → ℕ → ℕ
 replaced n f t = cond (eqb (f t) (suc n)) (f n) (f t)
 
-module _ (n : ℕ) (f : ℕ → ℕ) where
-  top-moved : (r : ℕ) → r ≤ n → f n ≡ r → (t : ℕ) × (t < suc n) × (f t ≡ suc n) → (t : ℕ) × (t < n) × (replaced n f t ≡ r)
-  top-moved r l e (t, m, top) =
-      same t n (λ q. absurd (omega (arith, ap f q))) (λ other. (t, omega arith, rw (eq-eqb (f t) (suc n) top) e))
+module _ (n : ℕ) (f : ℕ → ℕ) (r : ℕ) (l : r ≤ n) where
+  moved : f n ≡ r → Value (suc n) f (suc n) → Value n (replaced n f) r
+  moved e (t, m, top) = same t n (λ q. absurd (omega (arith, ap f q))) (λ other. (t, omega arith, rw (eq-eqb (f t) (suc n) top) e))
 
-  kept : (r : ℕ) → r ≤ n → (f n ≡ r → ⊥) → (t : ℕ) × (t < suc n) × (f t ≡ r) → (t : ℕ) × (t < n) × (replaced n f t ≡ r)
-  kept r l apart (t, m, e) =
+  kept : (f n ≡ r → ⊥) → Value (suc n) f r → Value n (replaced n f) r
+  kept apart (t, m, e) =
       same t n (λ q. absurd (apart (sym (ap f q) ∙ e))) (λ other. (t, omega arith, rw (ne-eqb (f t) (suc n) (omega arith)) e))
 
-no-onto : (n : ℕ) (f : ℕ → ℕ) → Onto n f n → ⊥
+no-onto : (n : ℕ) (f : ℕ → ℕ) → ((r : ℕ) → r ≤ n → Value n f r) → ⊥
 no-onto zero f onto = not-suc-le-zero (onto 0 (omega arith) .1)
 no-onto (suc n) f onto =
     no-onto n (replaced n f)
-    (λ r l. same (f n) r (λ e. top-moved n f r l e (onto (suc n) (omega arith))) (λ apart. kept n f r l apart (onto r (omega arith))))
+    (λ r l. same (f n) r (λ e. moved n f r l e (onto (suc n) (omega arith))) (λ apart. kept n f r l apart (onto r (omega arith))))
 
 -- ---- What is seen of the transactions below n
 
@@ -137,7 +135,7 @@ module _ (s : Store) where
         (λ (e : before .once ≡ false). seen .fails e each gapless)
 
   module _ (within : (t rank : ℕ) → statusOf s t ≡ pseudoCommitted rank → t < 64) where
-    holder : (r : ℕ) → (t : ℕ) × (statusOf s t ≡ pseudoCommitted r) → (t : ℕ) × (t < 64) × (rankOf (statusOf s t) ≡ r)
+    holder : (r : ℕ) → (t : ℕ) × (statusOf s t ≡ pseudoCommitted r) → Value 64 (λ t. rankOf (statusOf s t)) r
     holder r (t, e) = (t, within t r e, ap rankOf e)
 
     -- A rank of 64 or more would need more transactions than there are.
