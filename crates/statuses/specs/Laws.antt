@@ -3,3 +3,4 @@ pub mod Words
 pub mod Ranks
 pub mod Pass
 pub mod Count
+pub mod Writing

@@ -1,4 +1,4 @@
--- What one pass over the statuses (words 1 to 64 of the book) keeps and finds.
+-- What passes over the statuses (words 1 to 64 of the book) keep and find.
 use Prim.Native.Nat.{ℕ, suc, _<_, _≤_}
 use mathlib.Core.Path.{_≡_}
 use mathlib.Core.Bool.{true, false, _||_}
@@ -6,6 +6,8 @@ use mathlib.Core.Logic.{_↔_, _⊎_}
 use lib.Dec.{eqb}
 use Rattle.bitset.specs.Bitset.{has, Members}
 use Rattle.store.specs.Store.{Status, absent, active, pseudoCommitted}
+use Rattle.store.specs.Layout.{statusWord, readStatus}
+use Rattle.store.specs.Steps.{lowered}
 use Rattle.statuses.specs.declared.Ranks.{Ranks}
 
 -- The set has exactly the members that the predicate names.
@@ -23,3 +25,7 @@ Noted (pseudoCommitted rank) before after =
 -- Below each member all lower numbers are members.
 abbrev pub Downward : ℕ → Type 0
 Downward set = (n : ℕ) → has set (suc n) ≡ true → has set n ≡ true
+
+-- A status word once a rank has been taken out.
+abbrev pub loweredWord : ℕ → ℕ → ℕ
+loweredWord out x = statusWord (lowered out (readStatus x))

@@ -9,10 +9,11 @@ ghost use Prim.Native.Nat.{_+_, _<_};
 ghost use lib.Dec.{eqb};
 ghost use lib.ListN.{length};
 ghost use Rattle.bitset.specs.Bitset.{has, Members};
-ghost use Rattle.store.specs.Layout.{base, decode, readStatus, word};
+ghost use Rattle.store.specs.Layout.{Packed, base, decode, encode, readStatus, word};
 ghost use Rattle.store.specs.Store.{Live, PseudoCommitted, finishedCount};
 ghost use Rattle.store.specs.Soundness.{OnceEach, WithoutGaps};
-ghost use Rattle.statuses.specs.Statuses.{Has, Noted, Downward};
+ghost use Rattle.store.specs.Steps.{withStatus, closedUp};
+ghost use Rattle.statuses.specs.Statuses.{Has, Noted, Downward, loweredWord};
 
 // Who is live, who is pseudo-committed, and whether ranks are 0, 1, 2 and on, once each.
 pub struct Summary {
@@ -115,4 +116,34 @@ pub fn next_rank(book: &[u32]) -> u32
         transaction += 1;
     }
     count
+}
+
+pub fn set_status(book: &mut [u32], transaction: u32, status: u32)
+    requires { ⌜ Packed base (now book) × (transaction < 64) ⌝ }
+    ensures { λ r. ⌜ now (book .exit) ≡ encode base (withStatus transaction (readStatus status) (decode base (now (book .entry)))) ⌝ }
+{
+    let at = transaction as usize;
+    book[1 + at] = status;
+}
+
+// A status after rank `out` is taken out.
+fn lowered(status: u32, out: u32) -> u32
+    ensures { λ r. ⌜ r ≡ loweredWord out status ⌝ }
+{
+    if status > 1 && status - 2 > out {
+        return status - 1;
+    }
+    status
+}
+
+// Ranks above `out` go down by one.
+pub fn close_ranks(book: &mut [u32], out: u32)
+    requires { ⌜ Packed base (now book) ⌝ }
+    ensures { λ r. ⌜ now (book .exit) ≡ encode base (closedUp out (decode base (now (book .entry)))) ⌝ }
+{
+    let mut at: usize = 1;
+    while at < 65 {
+        book[at] = lowered(book[at], out);
+        at += 1;
+    }
 }

@@ -10,18 +10,14 @@ use lib.Dec.{eqb, ltb}
 use Rattle.bitset.specs.Bitset.{has, Members}
 use Rattle.store.specs.Store.{absent, pseudoCommitted, Live, PseudoCommitted}
 use Rattle.store.specs.Layout.{base, decode, statusWord, readStatus, word}
+use Rattle.store.specs.Laws.Encoding.{status-written}
 use Rattle.store.specs.Laws.Reading.{status-read, live-below}
 use Rattle.statuses.specs.declared.Ranks.{Ranks}
 use Rattle.statuses.specs.Statuses.{Noted}
 
-pub word-read : (x : ℕ) → statusWord (readStatus x) ≡ x
-word-read zero = refl
-word-read (suc zero) = refl
-word-read (suc (suc rank)) = omega arith
-
 live-word : (x : ℕ) → (ltb 0 x ≡ true) ↔ (readStatus x ≡ absent → ⊥)
 live-word zero = (λ h. absurd (false≢true h), λ p. absurd (p refl))
-live-word (suc x) = (λ h e. omega (arith, ap statusWord e, word-read (suc x)), λ p. lt-ltb 0 (suc x) (omega arith))
+live-word (suc x) = (λ h e. omega (arith, ap statusWord e, status-written (suc x)), λ p. lt-ltb 0 (suc x) (omega arith))
 
 finished-word : (x : ℕ) → (ltb 1 x ≡ true) ↔ ((rank : ℕ) × (readStatus x ≡ pseudoCommitted rank))
 finished-word zero = (λ h. absurd (false≢true h), λ p. absurd (omega (arith, ap statusWord (p .1))))
