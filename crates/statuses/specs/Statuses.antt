@@ -14,7 +14,7 @@ use Rattle.statuses.specs.declared.Ranks.{Ranks}
 abbrev pub Has : ℕ → (ℕ → Type 0) → Type 0
 Has set P = (t : ℕ) → (has set t ≡ true) ↔ P t
 
--- The ranks seen, with one more; what is in them after a rank that was there, or is 64 or more, no longer counts.
+-- What a status adds to the ranks seen: a rank below 64 that is new joins; any other is none that once-each ranks without gaps can have.
 abbrev pub Noted : Status → Ranks → Ranks → Type 0
 Noted absent before after = after ≡ before
 Noted active before after = after ≡ before

@@ -47,6 +47,7 @@ fn marked(set: u64, transaction: u32, test: bool) -> u64
     set
 }
 
+// The ranks seen, with that of one more status.
 fn noted(ranks: Ranks, status: u32) -> Ranks
     ensures { λ r. ⌜ Noted (readStatus status) ranks r ⌝ }
 {
@@ -66,13 +67,13 @@ fn noted(ranks: Ranks, status: u32) -> Ranks
     }
 }
 
-// Whether each rank was seen once, and each but 0 with the one below it.
+// Whether each rank was seen once, and with each but 0 the one below it.
 fn in_order(ranks: Ranks) -> bool
     ensures { λ r. ⌜ (r ≡ true) ↔ ((ranks .once ≡ true) × Downward (ranks .seen)) ⌝ }
 {
     let seen = ranks.seen;
     if ranks.once {
-        return join(seen >> 1, seen) == seen;
+        return join(seen, seen >> 1) == seen;
     }
     false
 }
@@ -126,11 +127,11 @@ pub fn set_status(book: &mut [u32], transaction: u32, status: u32)
     book[1 + at] = status;
 }
 
-// A status after rank `out` is taken out.
+// A status once rank `out` is taken out.
 fn lowered(status: u32, out: u32) -> u32
     ensures { λ r. ⌜ r ≡ loweredWord out status ⌝ }
 {
-    if status > 1 && status - 2 > out {
+    if status >= 2 && status - 2 > out {
         return status - 1;
     }
     status
@@ -141,9 +142,9 @@ pub fn close_ranks(book: &mut [u32], out: u32)
     requires { ⌜ Packed base (now book) ⌝ }
     ensures { λ r. ⌜ now (book .exit) ≡ encode base (closedUp out (decode base (now (book .entry)))) ⌝ }
 {
-    let mut at: usize = 1;
-    while at < 65 {
-        book[at] = lowered(book[at], out);
-        at += 1;
+    let mut t: usize = 0;
+    while t < 64 {
+        book[1 + t] = lowered(book[1 + t], out);
+        t += 1;
     }
 }

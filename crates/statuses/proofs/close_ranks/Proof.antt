@@ -1,5 +1,5 @@
 -- `statuses::close_ranks`: the words yet to be lowered, lowered in the book as it is, give the whole answer.
-use Prim.Native.Nat.{_-_, _≤_}
+use Prim.Native.Nat.{_+_, _-_, _≤_}
 use mathlib.Core.Path.{_≡_, refl, sym, _∙_}
 use native.Mathlib.Omega.{arith}
 use borrow.Author.Needs.{needs}
@@ -10,11 +10,11 @@ use Rattle.statuses.proofs.close_ranks.Statement.{statement}
 use Rattle.statuses.proofs.close_ranks.Tie as tie
 
 abbrev Inv-loop : tie.InvT-loop
-Inv-loop book₀ out at₀ book at =
-    (at ≤ 65) × (length book ≡ 3937) × (changed (loweredWord out) (65 - at) at book ≡ changed (loweredWord out) 64 1 book₀)
+Inv-loop book₀ out t₀ book t =
+    (t ≤ 64) × (length book ≡ 3937) × (changed (loweredWord out) (64 - t) (1 + t) book ≡ changed (loweredWord out) 64 1 book₀)
 
 abbrev μ-loop : tie.MeasureT-loop
-μ-loop book₀ out at₀ book at = 65 - at
+μ-loop book₀ out t₀ book t = 64 - t
 
 loop-holds : tie.Need-loop-holds Inv-loop μ-loop
 loop-holds c = (omega arith, c .before .pre .words, refl)
@@ -23,8 +23,8 @@ loop-again : tie.Need-loop-again Inv-loop μ-loop
 loop-again c =
     let loop = c .before .before .before .loop in (
       omega arith,
-      length-set (loop .book) (loop .at) (c .lowered .result) ∙ loop .inv .1,
-      changed-turn (loweredWord (c .before .before .before .before .before .args .out)) (loop .book) (loop .at) (c .lowered .result) (c .before .before .loop-test .taken) (c .lowered .ensures)
+      length-set (loop .book) (1 + loop .t) (c .lowered .result) ∙ loop .inv .1,
+      changed-turn (loweredWord (c .before .before .before .before .before .args .out)) (loop .book) (loop .t) (c .lowered .result) (c .before .before .loop-test .taken) (c .lowered .ensures)
           ∙ loop .inv .2,
     )
 
@@ -35,7 +35,8 @@ returns : tie.Need-returns Inv-loop μ-loop
 returns c =
     let loop = c .before .loop in
     let start = c .before .before .before in
-    sym (changed-end (loweredWord (start .args .out)) (loop .book) (loop .at) (c .loop-test .left)) ∙ loop .inv .2 ∙ all-lowered (start .args .out) (start .args .book .now) (start .pre)
+    sym (changed-end (loweredWord (start .args .out)) (loop .book) (loop .t) (c .loop-test .left))
+    ∙ loop .inv .2 ∙ all-lowered (start .args .out) (start .args .book .now) (start .pre)
 
 pub close-ranks-spec : {M : Type 1} → statement M
 close-ranks-spec =
@@ -46,7 +47,9 @@ close-ranks-spec =
     loop-holds
     (λ c. search needs)
     (λ c. search needs)
+    (λ c. search needs)
     (λ c κs. search needs)
+    (λ c. search needs)
     (λ c. search needs)
     (λ c. search needs)
     (λ c. search needs)

@@ -14,4 +14,4 @@ returns-2 c =
     ⊎-elim (λ w. lowered-kept (args .out) (args .status) (w .0 .taken) (w .1 .left)) (λ w. unranked-kept (args .out) (args .status) (w .left)) (c .if1 .came)
 
 pub lowered-spec : {M : Type 1} → statement M
-lowered-spec = tie.close (tie.spec (λ c. search needs) (λ c. search needs) returns returns-2)
+lowered-spec = tie.close (tie.spec (λ c. search needs) returns returns-2)

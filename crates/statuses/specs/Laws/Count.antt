@@ -1,12 +1,14 @@
 -- How many of the first transactions are pseudo-committed.
-use Prim.Native.Nat.{ℕ, zero, suc, _+_, _<_, _≤_}
+use Prim.Native.Nat.{ℕ, _+_, _<_, _≤_}
 use mathlib.Core.Path.{_≡_, refl, ap}
 use mathlib.Core.List.{List, [], _∷_, _++_}
 use native.Mathlib.Numerals.{add-one}
 use native.Mathlib.Omega.{arith}
+use Rattle.bitset.specs.Laws.{bit}
 use Rattle.store.specs.Store.{Status, absent, active, pseudoCommitted, finishedIn}
 use Rattle.store.specs.Layout.{word, tabulate, statusAt, readStatus}
 use Rattle.store.specs.Laws.Lists.{tabulate-zero, tabulate-snoc}
+use Rattle.statuses.specs.Laws.Words.{finished-read}
 
 finished-last : (l : List Status) (status : Status) → finishedIn (l ++ (status ∷ [])) ≡ finishedIn l + finishedIn (status ∷ [])
 finished-last [] status = omega arith
@@ -15,14 +17,10 @@ finished-last (active ∷ l) status = finished-last l status
 finished-last (pseudoCommitted rank ∷ l) status = omega (arith, finished-last l status)
 
 finished-one : (x : ℕ) → 1 < x → finishedIn (readStatus x ∷ []) ≡ 1
-finished-one zero l = absurd (omega arith)
-finished-one (suc zero) l = absurd (omega arith)
-finished-one (suc (suc rank)) l = refl
+finished-one x l = rw (finished-read x l)
 
-other-none : (x : ℕ) → x ≤ 1 → finishedIn (readStatus x ∷ []) ≡ 0
-other-none zero l = refl
-other-none (suc zero) l = refl
-other-none (suc (suc rank)) l = absurd (omega arith)
+other-none : (x : ℕ) → x < 2 → finishedIn (readStatus x ∷ []) ≡ 0
+other-none = bit (λ x. finishedIn (readStatus x ∷ []) ≡ 0) refl refl
 
 module _ (w : List ℕ) where
   unfoldable pub countUpto : ℕ → ℕ

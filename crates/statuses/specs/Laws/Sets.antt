@@ -9,12 +9,17 @@ use borrow.Author.Tests.{eqb-true, eq-eqb}
 use lib.Dec.{eqb}
 use Rattle.bitset.specs.Bitset.{has, Members}
 use Rattle.bitset.specs.Laws.{empty, halved, same-members}
-use Rattle.operations.specs.Laws.Cases.{split, same}
+use Rattle.operations.specs.Laws.Cases.{same}
 use Rattle.statuses.specs.Statuses.{Has, Downward}
 
 either : (a b : Bool) → (a || b) ≡ true → (a ≡ true) ⊎ (b ≡ true)
 either true b e = inl refl
 either false b e = inr e
+
+absorbed : (a b : Bool) → (b ≡ true → a ≡ true) → (a || b) ≡ a
+absorbed true b h = refl
+absorbed false true h = sym (h refl)
+absorbed false false h = refl
 
 module _ (set n : ℕ) where
   -- A set joined with the set of n alone.
@@ -69,9 +74,13 @@ downward set down zero n l h = absurd (not-suc-le-zero l)
 downward set down (suc m) n l h =
     same n m (λ e. subst (λ (k : ℕ). has set k ≡ true) (sym e) (down m h)) (λ other. downward set down m n (omega arith) (down m h))
 
-pub in-order : (set x : ℕ) → Members x (λ h. has (set / 2) h || has set h) → (eqb x set ≡ true) ↔ Downward set
-in-order set x members =
-    let lower : (n : ℕ) → has x n ≡ (has set (suc n) || has set n) = λ n. members n ∙ ap (λ (b : Bool). b || has set n) (halved set n) in (
-      λ e n h. ap (λ (y : ℕ). has y n) (sym (eqb-true x set e)) ∙ lower n ∙ ap (λ (b : Bool). b || has set n) h,
-      λ down. eq-eqb x set (same-members x set (λ n. lower n ∙ split (has set (suc n)) (λ (h : has set (suc n) ≡ true). ap (λ (b : Bool). b || has set n) h ∙ sym (down n h)) (λ (h : has set (suc n) ≡ false). ap (λ (b : Bool). b || has set n) h))),
-    )
+-- A set joined with itself one place down.
+module _ (set next : ℕ) (members : Members next (λ h. has set h || has (set / 2) h)) where
+  above : (n : ℕ) → has next n ≡ (has set n || has set (suc n))
+  above n = members n ∙ ap (λ (b : Bool). has set n || b) (halved set n)
+
+  pub in-order : (eqb next set ≡ true) ↔ Downward set
+  in-order = (
+    λ e n h. ap (λ (m : ℕ). has m n) (sym (eqb-true next set e)) ∙ above n ∙ ap (λ (b : Bool). has set n || b) h ∙ or-true (has set n),
+    λ down. eq-eqb next set (same-members next set (λ n. above n ∙ absorbed (has set n) (has set (suc n)) (down n))),
+  )

@@ -8,8 +8,9 @@ use borrow.Author.Tests.{ltb-true}
 use lib.Dec.{ltb}
 use lib.ListN.{length, getD, set, length-append, length-map}
 use lib.Seq.{set-append-left, set-append-seam, getD-append-seam}
+use Rattle.bitset.specs.Laws.{bit}
 use Rattle.replay.specs.Laws.Lists.{map-set}
-use Rattle.store.specs.Store.{Status, absent, active, pseudoCommitted, Store}
+use Rattle.store.specs.Store.{Status, Store}
 use Rattle.store.specs.Layout.{base, decode, encode, Packed, statusWord, readStatus}
 use Rattle.store.specs.Steps.{withStatus, lowered, closedUp}
 use Rattle.store.specs.Laws.Encoding.{status-written, status-read}
@@ -52,28 +53,27 @@ module _ (f : ℕ → ℕ) where
       ∙ rw (getD-append-seam p x (ws ++ rest) 0, set-append-seam p x (ws ++ rest) (f x)) (simp (e, append-assoc) at (changed-part (p ++ (f x ∷ [])) ws rest))
 
   -- A turn of the loop over words 1 to 64, and its end.
-  pub changed-turn : (w : List ℕ) (at value : ℕ) → at < 65 → value ≡ f (getD w at 0) → changed (65 - (at + 1)) (at + 1) (set w at value) ≡ changed (65 - at) at w
-  changed-turn w at value l e =
-      let n : 65 - at ≡ suc (65 - (at + 1)) = omega arith in
-      let k : at + 1 ≡ suc at = omega arith in
-      rw (n, k, e) (sym (changed-first (65 - suc at) at w))
+  pub changed-turn : (w : List ℕ) (t value : ℕ) → t < 64 → value ≡ f (getD w (1 + t) 0)
+      → changed (64 - (t + 1)) (1 + (t + 1)) (set w (1 + t) value) ≡ changed (64 - t) (1 + t) w
+  changed-turn w t value l e =
+      let n : 64 - t ≡ suc (64 - (t + 1)) = omega arith in
+      let k : 1 + (t + 1) ≡ suc (1 + t) = omega arith in
+      rw (n, k, e) (sym (changed-first (64 - (t + 1)) (1 + t) w))
 
-  pub changed-end : (w : List ℕ) (at : ℕ) → 65 ≤ at → changed (65 - at) at w ≡ w
+  pub changed-end : (w : List ℕ) (t : ℕ) → 64 ≤ t → changed (64 - t) (1 + t) w ≡ w
   unfolding changed
-  changed-end w at l = let e : 65 - at ≡ 0 = omega arith in rw e
+  changed-end w t l = let e : 64 - t ≡ 0 = omega arith in rw e
 
 module _ (out : ℕ) where
   module _ (status : ℕ) where
-    pub lowered-down : 1 < status → ltb out (status - 2) ≡ true → status - 1 ≡ loweredWord out status
+    pub lowered-down : 2 ≤ status → ltb out (status - 2) ≡ true → status - 1 ≡ loweredWord out status
     lowered-down l e = rw (finished-read status l, e) (omega (arith, ltb-true out (status - 2) e))
 
-    pub lowered-kept : 1 < status → ltb out (status - 2) ≡ false → status ≡ loweredWord out status
+    pub lowered-kept : 2 ≤ status → ltb out (status - 2) ≡ false → status ≡ loweredWord out status
     lowered-kept l e = rw (finished-read status l, e) (omega arith)
 
-  pub unranked-kept : (status : ℕ) → status ≤ 1 → status ≡ loweredWord out status
-  unranked-kept zero l = refl
-  unranked-kept (suc zero) l = refl
-  unranked-kept (suc (suc rank)) l = absurd (omega arith)
+  pub unranked-kept : (status : ℕ) → status < 2 → status ≡ loweredWord out status
+  unranked-kept = bit (λ x. x ≡ loweredWord out x) refl refl
 
   words-lowered : (l : List Status) → map (loweredWord out) (map statusWord l) ≡ map statusWord (map (lowered out) l)
   words-lowered [] = refl
