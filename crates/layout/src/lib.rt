@@ -2,9 +2,12 @@
 use operations::Operation;
 use operations::Reply;
 ghost use mathlib.Core.Path.{_≡_};
-ghost use Prim.Native.Nat.{_+_, _<_, _≤_};
+ghost use mathlib.Core.Bool.{true};
+ghost use mathlib.Core.Logic.{_↔_};
+ghost use Prim.Native.Nat.{ℕ, _+_, _<_, _≤_};
 ghost use lib.ListN.{length};
-ghost use Rattle.store.specs.Layout.{word, entryStart, objectStart};
+ghost use Rattle.store.specs.Layout.{word, entryStart, objectStart, rowsAt};
+ghost use Rattle.replay.specs.Replay.{rowsOf};
 
 pub const WORDS: usize = 3937;
 
@@ -86,4 +89,33 @@ pub fn row_count(book: &[u32], object: usize) -> usize
     ensures { λ r. ⌜ r ≡ word (now (book .entry)) (objectStart object + 1) ⌝ }
 {
     wide(book[FIRST_OBJECT + OBJECT * object + 1])
+}
+
+// Whether all words are 0. No early way out, so that many words are taken at once.
+pub fn is_zero(part: &[u32]) -> bool
+    ensures { λ r. ⌜ (r ≡ true) ↔ ((i : ℕ) → word (now (part .entry)) i ≡ 0) ⌝ }
+{
+    let mut seen: u32 = 0;
+    let mut i: usize = 0;
+    while i < part.len() {
+        seen = seen | part[i];
+        i += 1;
+    }
+    seen == 0
+}
+
+// A copy of an object's rows, for replay.
+pub fn copied_rows(book: &[u32], object: usize) -> [[u32; 2]; 64]
+    requires { ⌜ (length (now book) ≡ 3937) × (object < 16) × (word (now book) (objectStart object + 1) ≤ 64) ⌝ }
+    ensures { λ r. ⌜ rowsOf r (word (now (book .entry)) (objectStart object + 1)) ≡ rowsAt (now (book .entry)) object ⌝ }
+{
+    let start = FIRST_OBJECT + OBJECT * object + 2;
+    let count = row_count(book, object);
+    let mut rows = [[0u32; 2]; 64];
+    let mut i: usize = 0;
+    while i < count {
+        rows[i] = [book[start + 2 * i], book[start + 2 * i + 1]];
+        i += 1;
+    }
+    rows
 }

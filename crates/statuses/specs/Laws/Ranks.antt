@@ -8,7 +8,7 @@ use native.Mathlib.Omega.{arith}
 use borrow.Author.Tests.{eq-eqb, ne-eqb}
 use lib.Dec.{eqb}
 use Rattle.bitset.specs.Bitset.{has, Members}
-use Rattle.bitset.specs.Laws.{empty}
+use Rattle.bitset.specs.Laws.{no-member}
 use Rattle.operations.specs.Laws.Cases.{split, same}
 use Rattle.store.specs.Store.{Status, absent, active, pseudoCommitted, Store, statusOf}
 use Rattle.store.specs.Layout.{statusWord}
@@ -190,7 +190,7 @@ module _ (s : Store) where
   none-seen =
       record {
         holds = λ e. (
-          λ r. (λ h. absurd (false≢true (sym (empty 0 .0 refl r) ∙ h)), λ g. absurd (not-suc-le-zero (g .1))),
+          λ r. (λ h. absurd (false≢true (sym (no-member r) ∙ h)), λ g. absurd (not-suc-le-zero (g .1))),
           λ t u r lt lu et eu. absurd (not-suc-le-zero lt),
         );
         fails = λ e. absurd (false≢true (sym e));

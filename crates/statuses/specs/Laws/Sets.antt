@@ -8,7 +8,7 @@ use native.Mathlib.Omega.{arith}
 use borrow.Author.Tests.{eqb-true, eq-eqb}
 use lib.Dec.{eqb}
 use Rattle.bitset.specs.Bitset.{has, Members}
-use Rattle.bitset.specs.Laws.{empty, halved, same-members}
+use Rattle.bitset.specs.Laws.{no-member, half, same-members}
 use Rattle.operations.specs.Laws.Cases.{same}
 use Rattle.statuses.specs.Statuses.{Has, Downward}
 
@@ -48,7 +48,7 @@ module _ (P : ℕ → Type 0) where
   Upto n set = Has set (λ t. (t < n) × P t)
 
   pub upto-none : Upto 0 0
-  upto-none t = (λ h. absurd (false≢true (sym (empty 0 .0 refl t) ∙ h)), λ p. absurd (not-suc-le-zero (p .0)))
+  upto-none t = (λ h. absurd (false≢true (sym (no-member t) ∙ h)), λ p. absurd (not-suc-le-zero (p .0)))
 
   pub upto-next : (n set next : ℕ) (test : Bool) → (test ≡ true) ↔ P n → Members next (λ h. has set h || (test && eqb h n)) → Upto n set → Upto (n + 1) next
   upto-next n set next true decides members upto t =
@@ -77,7 +77,7 @@ downward set down (suc m) n l h =
 -- A set joined with itself one place down.
 module _ (set next : ℕ) (members : Members next (λ h. has set h || has (set / 2) h)) where
   above : (n : ℕ) → has next n ≡ (has set n || has set (suc n))
-  above n = members n ∙ ap (λ (b : Bool). has set n || b) (halved set n)
+  above n = members n ∙ ap (λ (b : Bool). has set n || b) (half set n)
 
   pub in-order : (eqb next set ≡ true) ↔ Downward set
   in-order = (
