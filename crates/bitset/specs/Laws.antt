@@ -25,7 +25,7 @@ pub shifted : (t : ℕ) → t < 64 → Members (1 * 2 ^ t % 2 ^ 64) (λ h. eqb h
 shifted t l = rw (one-mul, mod-eq-of-lt (pow-lt l)) (power t)
 
 -- What holds of 0 and of 1 holds of each bit.
-bit : (P : ℕ → Type 0) → P 0 → P 1 → (x : ℕ) → x < 2 → P x
+pub bit : (P : ℕ → Type 0) → P 0 → P 1 → (x : ℕ) → x < 2 → P x
 bit P p q zero l = p
 bit P p q (suc zero) l = q
 bit P p q (suc (suc x)) l = absurd (omega arith)
@@ -65,7 +65,7 @@ unfolding has
 no-member h = rw (zero-div)
 
 -- The members but 0, each lowered by one, are those of the half.
-half : (s h : ℕ) → has (s / 2) h ≡ has s (suc h)
+pub half : (s h : ℕ) → has (s / 2) h ≡ has s (suc h)
 unfolding has
 half s h = ap (λ (n : ℕ). eqb (n % 2) 1) (shr-shr s 1 h ∙ ap (λ (k : ℕ). s / 2 ^ k) (one-add h))
 
