@@ -2,7 +2,7 @@
 use Prim.Native.Nat.{ℕ, suc, _+_, _≤_, _<_}
 use mathlib.Core.Path.{_≡_, refl, sym, ap, ap₂, _∙_}
 use mathlib.Core.Logic.{_↔_, _⊎_, inl, inr, ⊎-elim}
-use mathlib.Core.Bool.{Bool, true, false, cond}
+use mathlib.Core.Bool.{Bool, true, false, cond, _||_}
 use mathlib.Core.Option.{some}
 use mathlib.Core.List.{List, [], _∷_}
 use native.Mathlib.Numerals.{add-one}
@@ -46,8 +46,8 @@ module _ (w : List ℕ) where
 
 -- The words that are stored for it name it.
 pub read : (w : List ℕ) (i : ℕ) (o : Operation) → AsStored w i → o .number ≡ word w (entryStart i + 2) → o .key ≡ word w (entryStart i + 3)
-    → o .value ≡ word w (entryStart i + 4) → (operationOf o ≡ some (operationAt w i)) × (o .number ≡ model.numberOf (operationAt w i))
-read w i o st n k v = (cc (read-back (operationAt w i)), n ∙ sym (st .0))
+    → o .value ≡ word w (entryStart i + 4) → operationOf o ≡ some (operationAt w i)
+read w i o st n k v = cc (read-back (operationAt w i))
 
 pub needed : (o : model.Operation) → rowsNeeded (model.numberOf o) ≡ cond (adds o) 1 0
 needed (model.onStack (model.push x)) = refl
@@ -69,6 +69,13 @@ module _ (number : ℕ) where
   pub needed-none : ((number ≡ 1) ⊎ ((number ≡ 4) ⊎ (number ≡ 7)) → ⊥) → 0 ≡ rowsNeeded number
   needed-none n =
       rw (ne-eqb number 1 (λ e. n (inl e)), ne-eqb number 4 (λ e. n (inr (inl e))), ne-eqb number 7 (λ e. n (inr (inr e))))
+
+  pub needed-few : rowsNeeded number ≤ 1
+  needed-few = few (eqb number 1 || (eqb number 4 || eqb number 7))
+    where
+      few : (b : Bool) → cond b 1 0 ≤ 1
+      few true = omega arith
+      few false = omega arith
 
 -- ---- An entry's answer
 

@@ -1,11 +1,12 @@
 -- Replay of an object's entries, from place to place of the log.
 use Prim.Native.Nat.{ℕ, suc, _+_, _-_, _≤_, _<_}
-use mathlib.Core.Path.{_≡_, refl, sym, ap, ap₂, _∙_, subst}
-use mathlib.Core.Logic.{_↔_, Iff·trans}
-use mathlib.Core.Bool.{Bool, true, false, cond, true≢false}
+use mathlib.Core.Path.{_≡_, refl, sym, ap, ap₂, _∙_}
+use mathlib.Core.Logic.{_↔_, Iff·rfl, Iff·trans}
+use mathlib.Core.Bool.{Bool, true, false, not, cond, true≢false}
 use mathlib.Core.Option.{some}
 use mathlib.Core.List.{List, [], _∷_, map}
 use native.Mathlib.Omega.{arith}
+use borrow.Author.Tests.{not-true, not-false}
 use lib.ListN.{length, take, length-append, length-take, length-map}
 use Rattle.operations.specs.Operations as model
 use Rattle.operations.specs.declared.Operation.{Operation}
@@ -15,7 +16,8 @@ use Rattle.operations.specs.Log.{Entry}
 use Rattle.operations.specs.Laws.Cases.{split}
 use Rattle.replay.specs.Replay.{rowOf, rowsOf, nextOf, nextBy, replyOf, replyBy}
 use Rattle.replay.specs.Laws.Positions.{inserted-same, inserted-more, deleted-less, deleted-same, modified-same}
-use Rattle.store.specs.Layout.{word, entryStart, operationAt, entryAt, rowsAt, adds, additions, Packed, base}
+use Rattle.store.specs.Layout.{word, entryStart, operationAt, entryAt, objectStart, rowAt, rowsAt, adds, additions, Packed, base}
+use Rattle.store.specs.Laws.Lists.{length-tabulate}
 use Rattle.answers.specs.Answers.{Served, Replayed, entriesFrom, ObjectAnswered, NextEntry, rowsNeeded}
 use Rattle.answers.specs.Laws.Entries.{entries-own, entries-end, read, needed}
 
@@ -63,9 +65,9 @@ module _ (e : Entry model.Operation model.Reply) (l : List (Entry model.Operatio
       → Replayed (used + n) l (model.next (e .operation) rs) ↔ Replayed used (e ∷ l) rs
   served used n rs a r = (λ h. (omega (arith, more, h .0), (r, h .1)), λ h. (omega (arith, more, h .0), h .1 .1))
 
--- ---- The whole
+-- ---- From entry to entry
 
--- Replay has come to entry i: what is left is answered exactly where the whole is.
+-- Replay has come to entry i: what is left to do is answered exactly where the whole is.
 pub record Replaying (w : List ℕ) (o i : ℕ) (rows : List (List ℕ)) (count used : ℕ) : Type 0 where
   pub within : i ≤ word w 0
   pub own : i < word w 0 → word w (entryStart i + 1) ≡ o
@@ -73,57 +75,94 @@ pub record Replaying (w : List ℕ) (o i : ℕ) (rows : List (List ℕ)) (count 
   pub room : used ≤ 64
   pub left : Replayed used (entriesFrom w o i) (rowsOf rows count) ↔ ObjectAnswered w o
 
-pub refuted : (P : Type 0) → (P → ⊥) → (false ≡ true) ↔ P
+module _ (w : List ℕ) (packed : Packed base w) (o : ℕ) (l : o < 16) where
+  row-count : length (rowsAt w o) ≡ word w (objectStart o + 1)
+  row-count = length-tabulate (word w (objectStart o + 1)) (rowAt w o)
+
+  -- Where the object has no entries there is nothing to replay, and room.
+  pub unlogged : entriesFrom w o 0 ≡ [] → ObjectAnswered w o
+  unlogged e = rw e (omega (arith, row-count, packed .objects o l .rows), tt)
+
+  module _ (at : ℕ) (first : NextEntry w o 0 at) where
+    pub untouched : at ≡ word w 0 → (true ≡ true) ↔ ObjectAnswered w o
+    untouched e = (λ t. unlogged (first .passed ∙ entries-end w o at (omega arith)), λ h. refl)
+
+    pub start : (rows : List (List ℕ)) (count : ℕ) → rowsOf rows (word w (objectStart o + 1)) ≡ rowsAt w o → count ≡ word w (objectStart o + 1)
+        → Replaying w o at rows count count
+    start rows count holds e =
+        let rs : rowsOf rows count ≡ rowsAt w o = ap (rowsOf rows) e ∙ holds in
+        let n : count ≡ length (rowsAt w o) = e ∙ sym row-count in
+        record {
+          within = first .within;
+          own = first .own;
+          counted = omega arith;
+          room = omega (arith, packed .objects o l .rows);
+          left = rw (rs, n, ← first .passed) Iff·rfl;
+        }
+
+pub replayed : {w : List ℕ} {o i : ℕ} {rows : List (List ℕ)} {count used : ℕ} → Replaying w o i rows count used → word w 0 ≤ i
+    → (true ≡ true) ↔ ObjectAnswered w o
+replayed {w} {o} {i} s l = (λ e. s .left .0 (rw (entries-end w o i l) (omega (arith, s .room), tt)), λ h. refl)
+
+-- At an entry of the object: the operation that was read there, and the rows that it may need.
+pub record Reached (w : List ℕ) (o i : ℕ) (rows : List (List ℕ)) (count used : ℕ) (operation : Operation) (n : ℕ) : Type 0 where
+  pub packed : Packed base w
+  pub state : Replaying w o i rows count used
+  pub inside : i < word w 0
+  pub words : (operation .number ≡ word w (entryStart i + 2)) × (operation .key ≡ word w (entryStart i + 3)) × (operation .value ≡ word w (entryStart i + 4))
+  pub needs : n ≡ rowsNeeded (operation .number)
+
+refuted : (P : Type 0) → (P → ⊥) → (false ≡ true) ↔ P
 refuted P n = (λ e. absurd (true≢false (sym e)), λ p. absurd (n p))
 
-module _ (w : List ℕ) (o i : ℕ) (rows : List (List ℕ)) (count used : ℕ) (s : Replaying w o i rows count used) where
-  pub replayed : word w 0 ≤ i → (true ≡ true) ↔ ObjectAnswered w o
-  replayed l =
-      (λ e. s .left .0 (subst (λ (es : List (Entry model.Operation model.Reply)). Replayed used es (rowsOf rows count)) (sym (entries-end w o i l)) (omega (arith, s .room), tt)), λ h. refl)
+module _ {w : List ℕ} {o i : ℕ} {rows : List (List ℕ)} {count used : ℕ} {operation : Operation} {n : ℕ} (at : Reached w o i rows count used operation n) where
+  named : operationOf operation ≡ some (operationAt w i)
+  named = read w i operation (at .packed .asStored i (at .inside)) (at .words .0) (at .words .1) (at .words .2)
 
-  module _ (packed : Packed base w) (l : i < word w 0) (operation : Operation)
-      (words : (operation .number ≡ word w (entryStart i + 2)) × (operation .key ≡ word w (entryStart i + 3)) × (operation .value ≡ word w (entryStart i + 4)))
-      (n : ℕ) (adding : n ≡ rowsNeeded (operation .number)) where
-    named : operationOf operation ≡ some (operationAt w i)
-    named = read w i operation (packed .asStored i l) (words .0) (words .1) (words .2) .0
+  needs-rows : n ≡ cond (adds (operationAt w i)) 1 0
+  needs-rows = at .needs ∙ ap rowsNeeded (at .words .0 ∙ sym (at .packed .asStored i (at .inside) .0)) ∙ needed (operationAt w i)
 
-    counts : n ≡ cond (adds (operationAt w i)) 1 0
-    counts = adding ∙ ap rowsNeeded (words .0 ∙ sym (packed .asStored i l .0)) ∙ needed (operationAt w i)
+  here : Replayed used (entryAt w i .entry ∷ entriesFrom w o (i + 1)) (rowsOf rows count) ↔ ObjectAnswered w o
+  here = rw (entries-own w o i (at .inside) (at .state .own (at .inside))) at (at .state .left)
 
-    here : Replayed used (entryAt w i .entry ∷ entriesFrom w o (i + 1)) (rowsOf rows count) ↔ ObjectAnswered w o
-    here =
-        subst (λ (es : List (Entry model.Operation model.Reply)). Replayed used es (rowsOf rows count) ↔ ObjectAnswered w o)
-        (entries-own w o i l (s .own l)) (s .left)
+  pub full : 64 < used + n → (false ≡ true) ↔ ObjectAnswered w o
+  full f = refuted (ObjectAnswered w o) (λ h. omega (arith, f, needs-rows, here .1 h .0, more (entryAt w i .entry) (entriesFrom w o (i + 1))))
 
-    pub full : 64 < used + n → (false ≡ true) ↔ ObjectAnswered w o
-    full f = refuted (ObjectAnswered w o) (λ h. omega (arith, f, counts, here .1 h .0, more (entryAt w i .entry) (entriesFrom w o (i + 1))))
+  next-named : nextOf operation (rowsOf rows count) ≡ model.next (operationAt w i) (rowsOf rows count)
+  next-named = ap (λ q. nextBy q (rowsOf rows count)) named
 
-    module _ (given answer : Reply) (gives : asReply given ≡ replyOf operation (rowsOf rows count))
-        (answers : (answer .code ≡ word w (entryStart i + 5)) × (answer .value ≡ word w (entryStart i + 6))) where
-      both : (asReply given ≡ asReply answer) ↔ (model.reply (operationAt w i) (rowsOf rows count) ≡ entryAt w i .entry .answer)
-      both =
-          let from : asReply given ≡ model.reply (operationAt w i) (rowsOf rows count) = gives ∙ ap (λ q. replyBy q (rowsOf rows count)) named in
-          let to : asReply answer ≡ entryAt w i .entry .answer = ap₂ model.replied (answers .0) (answers .1) in
-          (λ e. sym from ∙ e ∙ to, λ e. from ∙ e ∙ sym to)
+  next-count : length (nextOf operation (rowsOf rows count)) ≤ used + n
+  next-count =
+      omega (arith, needs-rows, at .state .counted, ap length next-named, grows (operationAt w i) (rowsOf rows count), rows-counted rows count)
 
-      pub wrong : (asReply given ≡ asReply answer → ⊥) → (false ≡ true) ↔ ObjectAnswered w o
-      wrong f = refuted (ObjectAnswered w o) (λ h. f (both .1 (here .1 h .1 .0)))
+  pub next-fits : used + n ≤ 64 → (count ≤ 64) × (length (nextOf operation (rowsOf rows count)) ≤ 64)
+  next-fits m = (omega (arith, at .state .counted), omega (arith, m, next-count))
 
-      next-rows : nextOf operation (rowsOf rows count) ≡ model.next (operationAt w i) (rowsOf rows count)
-      next-rows = ap (λ q. nextBy q (rowsOf rows count)) named
+  -- The reply is compared with the entry's answer.
+  module _ (given answer : Reply) (same : Bool) (replies : asReply given ≡ replyOf operation (rowsOf rows count))
+      (answers : (answer .code ≡ word w (entryStart i + 5)) × (answer .value ≡ word w (entryStart i + 6)))
+      (tested : (same ≡ true) ↔ (asReply given ≡ asReply answer)) where
+    compared : (same ≡ true) ↔ (model.reply (operationAt w i) (rowsOf rows count) ≡ entryAt w i .entry .answer)
+    compared =
+        let from : asReply given ≡ model.reply (operationAt w i) (rowsOf rows count) = replies ∙ ap (λ q. replyBy q (rowsOf rows count)) named in
+        let to : asReply answer ≡ entryAt w i .entry .answer = ap₂ model.replied (answers .0) (answers .1) in
+        (λ e. sym from ∙ tested .0 e ∙ to, λ e. tested .1 (from ∙ e ∙ sym to))
 
-      pub next-fits : used + n ≤ 64 → length (nextOf operation (rowsOf rows count)) ≤ 64
-      next-fits m = omega (arith, m, counts, s .counted, ap length next-rows, grows (operationAt w i) (rowsOf rows count), rows-counted rows count)
+    pub wrong : not same ≡ true → (false ≡ true) ↔ ObjectAnswered w o
+    wrong f = refuted (ObjectAnswered w o) (λ h. true≢false (sym (compared .1 (here .1 h .1 .0)) ∙ not-true same f))
 
-      pub turn : used + n ≤ 64 → asReply given ≡ asReply answer → (copy : List (List ℕ)) (newCount at : ℕ)
-          → rowsOf copy (length (nextOf operation (rowsOf rows count))) ≡ nextOf operation (rowsOf rows count)
-          → newCount ≡ length (nextOf operation (rowsOf rows count)) → NextEntry w o (i + 1) at → Replaying w o at copy newCount (used + n)
-      turn m e copy newCount at holds counted next =
-          let rs : rowsOf copy newCount ≡ model.next (operationAt w i) (rowsOf rows count) = ap (rowsOf copy) counted ∙ holds ∙ next-rows in
-          record {
-            within = next .within;
-            own = next .own;
-            counted = omega (arith, counted, counts, s .counted, ap length next-rows, grows (operationAt w i) (rowsOf rows count), rows-counted rows count);
-            room = m;
-            left = rw (← next .passed, rs) (Iff·trans (served (entryAt w i .entry) (entriesFrom w o (i + 1)) used n (rowsOf rows count) counts (both .0 e)) here);
-          }
+    pub turn : not same ≡ false → used + n ≤ 64 → (copy : List (List ℕ)) (newCount next : ℕ)
+        → rowsOf copy (length (nextOf operation (rowsOf rows count))) ≡ nextOf operation (rowsOf rows count)
+        → newCount ≡ length (nextOf operation (rowsOf rows count)) → NextEntry w o (i + 1) next → Replaying w o next copy newCount (used + n)
+    turn f m copy newCount next holds counted scan =
+        let rs : rowsOf copy newCount ≡ model.next (operationAt w i) (rowsOf rows count) = ap (rowsOf copy) counted ∙ holds ∙ next-named in
+        record {
+          within = scan .within;
+          own = scan .own;
+          counted = omega (arith, counted, next-count);
+          room = m;
+          left =
+              rw (← scan .passed, rs)
+              (Iff·trans (served (entryAt w i .entry) (entriesFrom w o (i + 1)) used n (rowsOf rows count) needs-rows (compared .0 (not-false same f)))
+              here);
+        }
