@@ -25,17 +25,16 @@ object-read c = c .wide .ensures ∙ c .before .entry-object .ensures
 returns : tie.Need-returns Inv-loop μ-loop
 returns c =
     let inv = c .before .before .before .before .loop .inv in
-    record { after = inv .0; within = omega arith; passed = inv .2; own = λ l. sym (object-read (c .before)) ∙ c .if1 .taken }
+    record { after = inv .0; within = omega arith; passed = inv .2; own = λ l. omega (arith, object-read (c .before), c .if1 .taken) }
 
 loop-again : tie.Need-loop-again Inv-loop μ-loop
 loop-again c =
     let at-loop = c .before .before .before .before in
-    let args = at-loop .before .before .before .args in
-    (
+    let args = at-loop .before .before .before .args in (
       omega arith,
       omega arith,
       at-loop .loop .inv .2
-      ∙ entries-other (args .book .now) (args .object) (at-loop .loop .i) (omega arith) (λ e. c .if1 .left (object-read (c .before) ∙ e)),
+          ∙ entries-other (args .book .now) (args .object) (at-loop .loop .i) (omega arith) (λ e. omega (arith, object-read (c .before), c .if1 .left)),
     )
 
 returns-2 : tie.Need-returns-2 Inv-loop μ-loop

@@ -112,8 +112,12 @@ pub record Reached (w : List ℕ) (o i : ℕ) (rows : List (List ℕ)) (count us
   pub words : (operation .number ≡ word w (entryStart i + 2)) × (operation .key ≡ word w (entryStart i + 3)) × (operation .value ≡ word w (entryStart i + 4))
   pub needs : n ≡ rowsNeeded (operation .number)
 
-refuted : (P : Type 0) → (P → ⊥) → (false ≡ true) ↔ P
-refuted P n = (λ e. absurd (true≢false (sym e)), λ p. absurd (n p))
+refuted : (Q : Type 0) → (Q → ⊥) → (false ≡ true) ↔ Q
+refuted Q n = (λ e. absurd (true≢false (sym e)), λ q. absurd (n q))
+
+-- A test failed of something that the whole implies.
+pub failed : {P : Type 0} (Q : Type 0) (test : Bool) → (test ≡ true) ↔ P → not test ≡ true → (Q → P) → (false ≡ true) ↔ Q
+failed Q test tested f whole = refuted Q (λ q. true≢false (sym (tested .1 (whole q)) ∙ not-true test f))
 
 module _ {w : List ℕ} {o i : ℕ} {rows : List (List ℕ)} {count used : ℕ} {operation : Operation} {n : ℕ} (at : Reached w o i rows count used operation n) where
   named : operationOf operation ≡ some (operationAt w i)
@@ -149,7 +153,7 @@ module _ {w : List ℕ} {o i : ℕ} {rows : List (List ℕ)} {count used : ℕ} 
         (λ e. sym from ∙ tested .0 e ∙ to, λ e. tested .1 (from ∙ e ∙ sym to))
 
     pub wrong : not same ≡ true → (false ≡ true) ↔ ObjectAnswered w o
-    wrong f = refuted (ObjectAnswered w o) (λ h. true≢false (sym (compared .1 (here .1 h .1 .0)) ∙ not-true same f))
+    wrong f = failed (ObjectAnswered w o) same compared f (λ h. here .1 h .1 .0)
 
     pub turn : not same ≡ false → used + n ≤ 64 → (copy : List (List ℕ)) (newCount next : ℕ)
         → rowsOf copy (length (nextOf operation (rowsOf rows count))) ≡ nextOf operation (rowsOf rows count)

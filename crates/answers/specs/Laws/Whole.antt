@@ -1,7 +1,8 @@
 -- All objects are answered exactly where there is room and the entries are answered.
 use Prim.Native.Nat.{ℕ, _+_, _≤_, _<_}
-use mathlib.Core.Path.{_≡_, refl, sym, ap, _∙_, subst}
-use mathlib.Core.Bool.{Bool, true, false, cond}
+use mathlib.Core.Path.{_≡_, refl, sym, ap, _∙_}
+use mathlib.Core.Logic.{_↔_}
+use mathlib.Core.Bool.{Bool, true, false, not, cond}
 use mathlib.Core.Option.{Option, none, some, Option·none-ne-some}
 use mathlib.Core.List.{List, [], _∷_}
 use native.Mathlib.Omega.{arith}
@@ -13,10 +14,12 @@ use Rattle.operations.specs.Log.{Entry, Answered}
 use Rattle.operations.specs.Laws.Cases.{split, same}
 use Rattle.operations.specs.Laws.Objects.{object}
 use Rattle.store.specs.Store.{Object, Logged, Store, objectOf, onObject}
-use Rattle.store.specs.Layout.{decode, Packed, base, rowsAt, additions}
+use Rattle.store.specs.Layout.{word, decode, Packed, base, rowsAt, additions}
 use Rattle.store.specs.Soundness.{EntriesFit, EntriesAnswered, Room}
 use Rattle.store.specs.Laws.Reading.{object-read, object-past, kind-below}
 use Rattle.answers.specs.Answers.{Served, entriesFrom, ObjectAnswered}
+use Rattle.answers.specs.Laws.Entries.{entries-end}
+use Rattle.answers.specs.Laws.Replay.{unlogged, failed}
 
 module _ (kind : Kind) where
   answered : (l : List (Entry Operation Reply)) (rs : List Row) → Served l rs → Answered (object reduceKey kind) l rs
@@ -50,7 +53,7 @@ module _ (w : List ℕ) (fits : EntriesFit base (decode base w)) where
       let x = object-past base w o l in
       omega (arith, ap (λ (x : Object). length (x .rows)) x, ap additions (unkinded (decode base w) o (ap (λ (x : Object). x .kind) x) (decode base w .log) fits))
 
-  pub all-answered : ((o : ℕ) → o < 16 → ObjectAnswered w o) → Room base (decode base w) × EntriesAnswered base (decode base w)
+  all-answered : ((o : ℕ) → o < 16 → ObjectAnswered w o) → Room base (decode base w) × EntriesAnswered base (decode base w)
   all-answered h = (
     λ o. split (ltb o 16)
         (λ (e : ltb o 16 ≡ true). let l = ltb-true o 16 e in omega (arith, h o l .0, ap length (rows-read o l)))
@@ -58,10 +61,21 @@ module _ (w : List ℕ) (fits : EntriesFit base (decode base w)) where
     λ o kind k. let l = kind-below base w o kind k in answered kind (entriesFrom w o 0) (objectOf (decode base w) o .rows) (rw (rows-read o l) (h o l .1)),
   )
 
-  pub each-answered : Room base (decode base w) × EntriesAnswered base (decode base w) → (o : ℕ) → o < 16 → ObjectAnswered w o
+  each-answered : Room base (decode base w) × EntriesAnswered base (decode base w) → (o : ℕ) → o < 16 → ObjectAnswered w o
   each-answered (room, answers) o l = (
     omega (arith, room o, ap length (rows-read o l)),
     kinded (objectOf (decode base w) o .kind)
         (λ (k : objectOf (decode base w) o .kind ≡ none). rw (unkinded (decode base w) o k (decode base w .log) fits) tt)
         (λ kind (k : objectOf (decode base w) o .kind ≡ some kind). rw (rows-read o l) at (served kind (entriesFrom w o 0) (objectOf (decode base w) o .rows) (answers o kind k))),
   )
+
+  pub passed-all : ((o : ℕ) → o < 16 → ObjectAnswered w o) → (true ≡ true) ↔ (Room base (decode base w) × EntriesAnswered base (decode base w))
+  passed-all h = (λ e. all-answered h, λ a. refl)
+
+  pub failed-one : (o : ℕ) → o < 16 → (test : Bool) → (test ≡ true) ↔ ObjectAnswered w o → not test ≡ true
+      → (false ≡ true) ↔ (Room base (decode base w) × EntriesAnswered base (decode base w))
+  failed-one o l test tested f =
+      failed (Room base (decode base w) × EntriesAnswered base (decode base w)) test tested f (λ a. each-answered a o l)
+
+pub no-entries : (w : List ℕ) → Packed base w → word w 0 ≡ 0 → (o : ℕ) → o < 16 → ObjectAnswered w o
+no-entries w packed e o l = unlogged w packed o l (entries-end w o 0 (omega arith))
