@@ -29,13 +29,13 @@ loop-holds : tie.Need-loop-holds Inv-loop μ-loop
 loop-holds c = (omega arith, below-none (ObjectAnswered (c .before .before .before .args .book .now)))
 
 object-answered-requires : tie.Need-object-answered-requires Inv-loop μ-loop
-object-answered-requires c κs = (c .before .before .before .before .before .pre .0, c .loop-test .taken)
+object-answered-requires c κs = (c .before .before .before .before .before .pre .0, omega arith)
 
 returns-2 : tie.Need-returns-2 Inv-loop μ-loop
 returns-2 c =
     let in-loop = c .before .before in
     let begin = in-loop .before .before .before .before .before in
-    failed-one (begin .args .book .now) (begin .pre .1) (in-loop .before .loop .object) (in-loop .loop-test .taken) (c .before .object-answered .result)
+    failed-one (begin .args .book .now) (begin .pre .1) (in-loop .before .loop .object) (omega (arith, in-loop .loop-test .taken)) (c .before .object-answered .result)
     (c .before .object-answered .ensures) (c .if2 .taken)
 
 loop-again : tie.Need-loop-again Inv-loop μ-loop

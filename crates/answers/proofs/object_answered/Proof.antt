@@ -1,6 +1,6 @@
 -- `answers::object_answered`: what is left to replay is answered exactly where the whole is.
-use Prim.Native.Nat.{_-_, _≤_, _<_}
-use mathlib.Core.Path.{_≡_, refl, sym, _∙_}
+use Prim.Native.Nat.{_-_, _<_}
+use mathlib.Core.Path.{_≡_, _∙_}
 use native.Mathlib.Omega.{arith}
 use borrow.Author.Needs.{needs}
 use lib.ListN.{length}
@@ -71,10 +71,10 @@ add-used : tie.Need-add-used Inv-loop μ-loop
 add-used c = omega (arith, c .before .before .before .loop .inv .room, c .rows-needed .ensures, needed-few (c .before .entry-operation .result .number))
 
 returns-2 : tie.Need-returns-2 Inv-loop μ-loop
-returns-2 c = full (reached (c .before)) (c .if2 .taken)
+returns-2 c = full (reached (c .before)) (omega (arith, c .if2 .taken))
 
 reply-requires : tie.Need-reply-requires Inv-loop μ-loop
-reply-requires c κs = next-fits (reached (c .before .before)) (c .before .if2 .left) .0
+reply-requires c κs = next-fits (reached (c .before .before)) (omega (arith, c .before .if2 .left)) .0
 
 entry-answer-requires : tie.Need-entry-answer-requires Inv-loop μ-loop
 entry-answer-requires c κs = readable (c .before .before .before .before .before)

@@ -1,5 +1,5 @@
 -- The log's entries of one object, read from place to place; and an entry's operation.
-use Prim.Native.Nat.{ℕ, suc, _+_, _≤_, _<_}
+use Prim.Native.Nat.{ℕ, _+_, _≤_, _<_}
 use mathlib.Core.Path.{_≡_, refl, sym, ap, ap₂, _∙_}
 use mathlib.Core.Logic.{_↔_, _⊎_, inl, inr, ⊎-elim}
 use mathlib.Core.Bool.{Bool, true, false, cond, _||_}
@@ -9,18 +9,17 @@ use native.Mathlib.Numerals.{add-one}
 use native.Mathlib.Omega.{arith}
 use borrow.Author.Tests.{eqb-true, eq-eqb, ne-eqb}
 use lib.Dec.{eqb}
-use lib.ListN.{length, getD, drop, drop-of-length-le}
+use lib.ListN.{drop, drop-of-length-le}
 use lib.Seq.{drop-cons}
 use Rattle.operations.specs.Operations as model
 use Rattle.operations.specs.declared.Operation.{Operation}
 use Rattle.operations.specs.declared.Reply.{Reply}
 use Rattle.operations.specs.Stored.{operationOf, asReply}
-use Rattle.operations.specs.Log.{Entry}
 use Rattle.operations.specs.Laws.Storing.{read-back}
 use Rattle.store.specs.Store.{Logged, onObject}
 use Rattle.store.specs.Layout.{word, tabulate, entryStart, operationAt, entryAt, AsStored, adds}
 use Rattle.store.specs.Laws.Lists.{length-tabulate, getD-tabulate}
-use Rattle.answers.specs.Answers.{entriesFrom, NextEntry, rowsNeeded}
+use Rattle.answers.specs.Answers.{entriesFrom, rowsNeeded}
 
 module _ (w : List ℕ) where
   from-entry : (i : ℕ) → i < word w 0 → drop i (tabulate (word w 0) (entryAt w)) ≡ entryAt w i ∷ drop (i + 1) (tabulate (word w 0) (entryAt w))

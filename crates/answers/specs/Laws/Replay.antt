@@ -4,7 +4,7 @@ use mathlib.Core.Path.{_≡_, refl, sym, ap, ap₂, _∙_}
 use mathlib.Core.Logic.{_↔_, Iff·rfl, Iff·trans}
 use mathlib.Core.Bool.{Bool, true, false, not, cond, true≢false}
 use mathlib.Core.Option.{some}
-use mathlib.Core.List.{List, [], _∷_, map}
+use mathlib.Core.List.{List, [], _∷_}
 use native.Mathlib.Omega.{arith}
 use borrow.Author.Tests.{not-true, not-false}
 use lib.ListN.{length, take, length-append, length-take, length-map}
@@ -18,7 +18,7 @@ use Rattle.replay.specs.Replay.{rowOf, rowsOf, nextOf, nextBy, replyOf, replyBy
 use Rattle.replay.specs.Laws.Positions.{inserted-same, inserted-more, deleted-less, deleted-same, modified-same}
 use Rattle.store.specs.Layout.{word, entryStart, operationAt, entryAt, objectStart, rowAt, rowsAt, adds, additions, Packed, base}
 use Rattle.store.specs.Laws.Lists.{length-tabulate}
-use Rattle.answers.specs.Answers.{Served, Replayed, entriesFrom, ObjectAnswered, NextEntry, rowsNeeded}
+use Rattle.answers.specs.Answers.{Replayed, entriesFrom, ObjectAnswered, NextEntry, rowsNeeded}
 use Rattle.answers.specs.Laws.Entries.{entries-own, entries-end, read, needed}
 
 -- ---- How many rows there are
