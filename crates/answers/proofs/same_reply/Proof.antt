@@ -1,0 +1,13 @@
+-- `answers::same_reply`: where the codes are the same, the values decide.
+use Rattle.answers.specs.Laws.Entries.{same-code, other-code}
+use Rattle.answers.proofs.same_reply.Statement.{statement}
+use Rattle.answers.proofs.same_reply.Tie as tie
+
+returns : tie.Need-returns
+returns c = let args = c .before .before .before .before .before .args in same-code (args .a) (args .b) (c .before .before .if1 .taken)
+
+returns-2 : tie.Need-returns-2
+returns-2 c = let args = c .before .before .before .args in other-code (args .a) (args .b) (c .if1 .left)
+
+pub same-reply-spec : {M : Type 1} → statement M
+same-reply-spec = tie.close (tie.spec returns returns-2)

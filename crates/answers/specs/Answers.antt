@@ -1,0 +1,38 @@
+-- What `answers` says of an object: replay of its entries in order, from its rows, with room for what they may add.
+use Prim.Native.Nat.{ℕ, _+_, _≤_, _<_}
+use mathlib.Core.Path.{_≡_}
+use mathlib.Core.Bool.{cond, _||_}
+use mathlib.Core.List.{List, [], _∷_}
+use lib.Dec.{eqb}
+use lib.ListN.{length, drop}
+use Rattle.operations.specs.Operations.{Row, Operation, Reply, next, reply}
+use Rattle.operations.specs.Log.{Entry}
+use Rattle.store.specs.Store.{onObject}
+use Rattle.store.specs.Layout.{word, tabulate, entryStart, entryAt, rowsAt, additions}
+
+-- Served in order from the rows, each entry gets the answer that it was given: `Answered` for every kind at once.
+abbrev pub Served : List (Entry Operation Reply) → List Row → Type 0
+Served [] rs = Unit {0}
+Served (e ∷ l) rs = (reply (e .operation) rs ≡ e .answer) × Served l (next (e .operation) rs)
+
+-- Besides, the entries' pushes and inserts fit in beside the rows that are used.
+abbrev pub Replayed : ℕ → List (Entry Operation Reply) → List Row → Type 0
+Replayed used l rs = (used + additions l ≤ 64) × Served l rs
+
+-- An object's entries from place i of the log on.
+abbrev pub entriesFrom : List ℕ → ℕ → ℕ → List (Entry Operation Reply)
+entriesFrom w o i = onObject o (drop i (tabulate (word w 0) (entryAt w)))
+
+abbrev pub ObjectAnswered : List ℕ → ℕ → Type 0
+ObjectAnswered w o = Replayed (length (rowsAt w o)) (entriesFrom w o 0) (rowsAt w o)
+
+-- The object's first entry at or after a place, or the number of entries.
+pub record NextEntry (w : List ℕ) (o from at : ℕ) : Type 0 where
+  pub after : from ≤ at
+  pub within : at ≤ word w 0
+  pub passed : entriesFrom w o from ≡ entriesFrom w o at
+  pub own : at < word w 0 → word w (entryStart at + 1) ≡ o
+
+-- How many rows an operation may need, by its number: one for a push or an insert.
+abbrev pub rowsNeeded : ℕ → ℕ
+rowsNeeded number = cond (eqb number 1 || (eqb number 4 || eqb number 7)) 1 0
