@@ -1,9 +1,11 @@
 -- The members of the sets that a shift, `|` and `&` make, and the test of one bit.
 use mathlib.Core.Path.{_≡_, refl, sym, ap, _∙_}
-use mathlib.Core.Bool.{Bool, _&&_, _||_}
-use Prim.Native.Nat.{ℕ, zero, suc, _*_, _/_, _%_, _^_, _<_}
-use native.Mathlib.Nat.{zero-lt-suc, mod-lt, mod-eq-of-lt, one-mul, pow-suc, div-one, div-eq-of-lt, mul-mod-left, mul-div-mul-right}
+use mathlib.Core.Bool.{Bool, false, _&&_, _||_}
+use mathlib.Core.Logic.{_↔_}
+use Prim.Native.Nat.{ℕ, zero, suc, _*_, _/_, _%_, _^_, _<_, _≤_}
+use native.Mathlib.Nat.{zero-lt-suc, mod-lt, mod-eq-of-lt, one-mul, pow-suc, pow-succ', zero-div, div-one, div-eq-of-lt, div-div-eq-div-mul, mul-mod-left, mul-div-mul-right}
 use native.Mathlib.Omega.{arith}
+use borrow.Author.Tests.{eqb-false}
 use lib.Bits.{bitAnd, bitOr, and-shr, or-shr, and-mod, or-mod, and-mask}
 use lib.Dec.{eqb, eqb·zero-suc, eqb·suc-zero, eqb·suc-suc}
 use lib.Pow.{pow-lt}
@@ -53,3 +55,25 @@ met = members bitAnd (λ p q. p && q) and-shr and-mod (refl, refl, refl, refl)
 pub tested : (s h : ℕ) → eqb (bitAnd (s / 2 ^ h) 1) 1 ≡ has s h
 unfolding has
 tested s h = ap (λ (x : ℕ). eqb x 1) (and-mask (s / 2 ^ h) 1)
+
+no-members : (h : ℕ) → has 0 h ≡ false
+unfolding has
+no-members h = rw zero-div refl
+
+halved : (s h : ℕ) → has (s / 2) h ≡ has s (suc h)
+unfolding has
+halved s h = rw (div-div-eq-div-mul s 2 (2 ^ h), pow-succ' 2 h) refl
+
+even : (s : ℕ) → has s 0 ≡ false → s % 2 ≡ 0
+unfolding has
+even s e = omega (arith, mod-lt s (zero-lt-suc 1), rw div-one at (eqb-false (s / 2 ^ 0 % 2) 1 e))
+
+without-members : (n s : ℕ) → s ≤ n → Members s (λ h. false) → s ≡ 0
+without-members zero s l none = omega arith
+without-members (suc n) s l none =
+    let half : s / 2 ≡ 0 = without-members n (s / 2) (omega arith) (λ h. halved s h ∙ none (suc h)) in
+    omega (arith, even s (none 0))
+
+-- Only the set 0 has no members.
+pub empty : (s : ℕ) → (s ≡ 0) ↔ Members s (λ h. false)
+empty s = (λ e h. ap (λ (n : ℕ). has n h) e ∙ no-members h, λ none. without-members s s (omega arith) none)
