@@ -1,4 +1,6 @@
 pub mod Sets
 pub mod Entries
-pub mod Scan
+pub mod Numbers
+pub mod Rows
+pub mod Chains
 pub mod Gathering

@@ -20,7 +20,7 @@ use Rattle.store.specs.Layout.{word, tabulate, entryAt, operationAt, base, deco
 use Rattle.store.specs.Soundness.{EntriesLive, EntriesFit, EntriesRecoverable}
 use Rattle.store.specs.Laws.Lists.{all-each, follows-some, follows-of, PairBelow}
 use Rattle.store.specs.Laws.Reading.{live-below, kind-below}
-use Rattle.dependencies.specs.Dependencies.{transactionAt, objectAt, Readable, Fails, FailsAgainst, UnrecoverableBelow}
+use Rattle.dependencies.specs.Dependencies.{transactionAt, objectAt, Readable, Fails, BarsBelow, Unrecoverable}
 
 -- ---- Entries of one object
 
@@ -77,10 +77,9 @@ module _ (o : ℕ) where
 
 -- ---- The clauses
 
-against : (related : Operation → Operation → Bool) (w : List ℕ) (k j i : ℕ) → j < i → i < k → Fails related w i j
-    → FailsAgainst related w k (transactionAt w i) (transactionAt w j)
-against related w k j i l m f =
-    record { entry = i; below = m; requester = refl; earlier = record { entry = j; below = l; owner = refl; pair = f } }
+against : (related : Operation → Operation → Bool) (w : List ℕ) (n j i : ℕ) → j < i → i < n → Fails related w i j
+    → BarsBelow related w n (transactionAt w i) (transactionAt w j)
+against related w n j i l m f = (i, m, (refl, (j, l, (refl, f))))
 
 module _ (w : List ℕ) where
   module _ (live : EntriesLive base (decode base w)) (fits : EntriesFit base (decode base w)) where
@@ -93,25 +92,24 @@ module _ (w : List ℕ) where
           words = packed .words;
           entries = packed .entries;
           stored = packed .asStored;
-          transactions = λ i l. live-below base w (transactionAt w i) (all-each (λ (e : Logged). Live (decode base w) (e .entry .transaction)) (word w 0) (entryAt w) live i l);
+          transactions = λ i l.
+              live-below base w (transactionAt w i) (all-each (λ (e : Logged). Live (decode base w) (e .entry .transaction)) (word w 0) (entryAt w) live i l);
           objects = λ i l. kind-below base w (objectAt w i) (kindOf (operationAt w i)) (of-kind i l);
           kinds = λ i j l m e.
               Option·some-injective (kindOf (operationAt w j)) (kindOf (operationAt w i))
               (sym (of-kind j m) ∙ (ap (λ (o : ℕ). objectOf (decode base w) o .kind) e ∙ of-kind i l));
         }
 
-    pub recoverable-none : EntriesRecoverable base (decode base w) ↔ ((b : ℕ) → UnrecoverableBelow w (word w 0) b → ⊥)
+    pub recoverable-none : EntriesRecoverable base (decode base w) ↔ ((b : ℕ) → Unrecoverable w (word w 0) b → ⊥)
     recoverable-none = (there, back)
       where
-        there : EntriesRecoverable base (decode base w) → (b : ℕ) → UnrecoverableBelow w (word w 0) b → ⊥
-        there h b (a, d) =
-            let i = d .entry in
-            let e = d .earlier in
+        there : EntriesRecoverable base (decode base w) → (b : ℕ) → Unrecoverable w (word w 0) b → ⊥
+        there h b (a, (i, m, (p, (j, l, (q, f))))) =
             true≢false
-            (sym (recoverable-each (objectAt w i) (kindOf (operationAt w i)) (word w 0) (entryAt w) (h (objectAt w i) (kindOf (operationAt w i)) (of-kind i (d .below)))
-            (e .entry) i (e .below) (d .below) (e .pair .object) refl (λ q. e .pair .other (sym q))) ∙ e .pair .fails)
+            (sym (recoverable-each (objectAt w i) (kindOf (operationAt w i)) (word w 0) (entryAt w) (h (objectAt w i) (kindOf (operationAt w i)) (of-kind i m))
+            j i l m (f .object) refl (λ e. f .other (sym e))) ∙ f .fails)
 
-        back : ((b : ℕ) → UnrecoverableBelow w (word w 0) b → ⊥) → EntriesRecoverable base (decode base w)
+        back : ((b : ℕ) → Unrecoverable w (word w 0) b → ⊥) → EntriesRecoverable base (decode base w)
         back h o kind e =
             recoverable-of o kind (word w 0) (entryAt w)
             (λ j i l m d f other.
@@ -121,18 +119,14 @@ module _ (w : List ℕ) where
             (h (transactionAt w j)
             (transactionAt w i, against recoverable w (word w 0) j i l m (record { object = d ∙ sym f; other = λ q. other (sym q); fails = t })))))
 
-  pub depends-against : (a b : ℕ) → FailsAgainst commutes w (word w 0) a b ↔ DependsOn (decode base w .log) a b
-  depends-against a b = (there, λ d. back (d .0) (follows-some (Conflict a b) (word w 0) (entryAt w) (d .1)))
+  pub depends-bars : (a b : ℕ) → BarsBelow commutes w (word w 0) a b ↔ DependsOn (decode base w .log) a b
+  depends-bars a b = (there, λ d. back (d .0) (follows-some (Conflict a b) (word w 0) (entryAt w) (d .1)))
     where
-      there : FailsAgainst commutes w (word w 0) a b → DependsOn (decode base w .log) a b
-      there d =
-          let e = d .earlier in (
-            λ q. e .pair .other (e .owner ∙ (sym q ∙ sym (d .requester))),
-            follows-of (Conflict a b) (word w 0) (entryAt w) (e .entry) (d .entry) (e .below) (d .below)
-                (d .requester, e .owner, sym (e .pair .object), e .pair .fails),
-          )
+      there : BarsBelow commutes w (word w 0) a b → DependsOn (decode base w .log) a b
+      there (i, m, (p, (j, l, (q, f)))) =
+          (λ e. f .other (q ∙ (sym e ∙ sym p)), follows-of (Conflict a b) (word w 0) (entryAt w) j i l m (p, q, sym (f .object), f .fails))
 
-      back : (a ≡ b → ⊥) → PairBelow (Conflict a b) (word w 0) (entryAt w) → FailsAgainst commutes w (word w 0) a b
+      back : (a ≡ b → ⊥) → PairBelow (Conflict a b) (word w 0) (entryAt w) → BarsBelow commutes w (word w 0) a b
       back ne (j, i, l, m, (p, q, o, f)) =
-          subst₂ (FailsAgainst commutes w (word w 0)) p q
+          subst₂ (BarsBelow commutes w (word w 0)) p q
           (against commutes w (word w 0) j i l m (record { object = sym o; other = λ e. ne (sym p ∙ (sym e ∙ q)); fails = f }))
