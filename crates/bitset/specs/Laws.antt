@@ -1,6 +1,7 @@
 -- The members of the sets that a shift, `|`, `&` and `!` make, the test of one bit, and the lowest member; sets by their members.
 use mathlib.Core.Path.{_≡_, refl, sym, ap, _∙_}
 use mathlib.Core.Bool.{Bool, true, false, cond, not, _&&_, _||_, true≢false, false≢true}
+use mathlib.Core.Logic.{_↔_}
 use Prim.Native.Nat.{ℕ, zero, suc, _-_, _*_, _/_, _%_, _^_, _<_, _≤_}
 use native.Mathlib.Nat.{zero-lt-suc, not-suc-le-zero, lt-of-not-le, lt-of-lt-of-le, mod-lt, mod-eq-of-lt, one-mul, pow-suc, div-one, zero-div, div-eq-of-lt, mul-mod-left, mul-div-mul-right}
 use native.Mathlib.Numerals.{one-add}
@@ -80,6 +81,10 @@ no-members =
     let u : s / 2 ≡ 0 = upper (λ h. half s h ∙ none (suc h)) in
     let odd : s % 2 ≡ 1 → ⊥ = eqb-false (s % 2) 1 (sym (first s) ∙ none 0) in
     omega arith)
+
+-- Only the set 0 has no members.
+pub empty : (s : ℕ) → (s ≡ 0) ↔ Members s (λ h. false)
+empty s = (λ e h. ap (λ (n : ℕ). has n h) e ∙ no-member h, no-members s)
 
 bit-same : (x : ℕ) → x < 2 → (y : ℕ) → y < 2 → eqb x 1 ≡ eqb y 1 → x ≡ y
 bit-same =

@@ -1,0 +1,6 @@
+pub mod Sets
+pub mod Entries
+pub mod Numbers
+pub mod Rows
+pub mod Chains
+pub mod Gathering

@@ -1,0 +1,113 @@
+-- Operations by number: their kinds and columns, and what the rules pick.
+use Prim.Native.Nat.{ℕ, _+_, _-_, _≤_, _<_}
+use mathlib.Core.Path.{_≡_, refl, sym, ap, _∙_}
+use mathlib.Core.Bool.{Bool, true, false, _||_, _&&_, not, true≢false}
+use mathlib.Core.Logic.{_↔_, _⊎_, inl, inr}
+use mathlib.Core.List.{List}
+use native.Mathlib.Omega.{arith}
+use borrow.Author.Tests.{le-leb, lt-leb, leb-true, leb-false, eqb-true, not-false}
+use lib.Dec.{leb, eqb}
+use lib.ListN.{getD}
+use Rattle.operations.specs.Operations.{Kind, Stack, Set, Table, push, pop, top, setInsert, setDelete, member, tableInsert, tableDelete, lookup, size, modify, Operation, onStack, onSet, onTable, kindOf, numberOf, keyOf}
+use Rattle.operations.specs.PairRules.{Rule, always, never, apart, Rules, allows, ruleAt, firstNumber, lastNumber}
+use Rattle.operations.specs.Laws.Cases.{split}
+use Rattle.bitset.specs.Bitset.{has, Members}
+use Rattle.pairs.specs.Pairs.{codeOf, codeAt}
+use Rattle.dependencies.specs.Dependencies.{Holds, Some, Numbered, kindNumbered, firstOf, lastOf, columnOf, picked, pickedAt, Picked}
+use Rattle.dependencies.specs.Laws.Sets.{some-none, some-more, holds-none, holds-same, holds-join}
+
+-- ---- Kinds
+
+pub numbered-stack : (number : ℕ) → number ≤ 3 → kindNumbered number ≡ Stack
+unfolding kindNumbered
+numbered-stack number l = rw (le-leb number 3 l)
+
+pub numbered-set : (number : ℕ) → 3 < number → number ≤ 6 → kindNumbered number ≡ Set
+unfolding kindNumbered
+numbered-set number l m = rw (lt-leb number 3 l, le-leb number 6 m)
+
+pub numbered-table : (number : ℕ) → 6 < number → kindNumbered number ≡ Table
+unfolding kindNumbered
+numbered-table number l =
+    let m : 3 < number = omega arith in
+    rw (lt-leb number 3 m, lt-leb number 6 l)
+
+-- The range of a number's kind.
+pub record Ranged (number : ℕ) : Type 0 where
+  pub least : firstOf number ≤ number
+  pub most : number ≤ lastOf number
+  pub width : lastOf number ≤ firstOf number + 4
+  pub end : lastOf number ≤ 11
+
+pub ranged : (number : ℕ) → Numbered number → Ranged number
+ranged number (l, m) =
+    split (leb number 3) (λ (e : leb number 3 ≡ true). let k = numbered-stack number (leb-true number 3 e) in of-kind Stack k (omega (arith, leb-true number 3 e)))
+    (λ (e : leb number 3 ≡ false).
+    split (leb number 6)
+    (λ (f : leb number 6 ≡ true).
+    of-kind Set (numbered-set number (leb-false number 3 e) (leb-true number 6 f)) (omega (arith, leb-false number 3 e, leb-true number 6 f)))
+    (λ (f : leb number 6 ≡ false). of-kind Table (numbered-table number (leb-false number 6 f)) (omega (arith, leb-false number 6 f))))
+  where
+    widths : (kind : Kind) → (lastNumber kind ≤ firstNumber kind + 4) × (lastNumber kind ≤ 11)
+    widths Stack = omega arith
+    widths Set = omega arith
+    widths Table = omega arith
+
+    of-kind : (kind : Kind) → kindNumbered number ≡ kind → (firstNumber kind ≤ number) × (number ≤ lastNumber kind) → Ranged number
+    of-kind kind e r =
+        let f : firstOf number ≡ firstNumber kind = ap firstNumber e in
+        let g : lastOf number ≡ lastNumber kind = ap lastNumber e in
+        let w = widths kind in
+        record { least = omega arith; most = omega arith; width = omega arith; end = omega arith }
+
+-- Of an operation: its number's kind is its own.
+pub placed : (o : Operation) → (kindNumbered (numberOf o) ≡ kindOf o) × Numbered (numberOf o)
+unfolding kindNumbered
+placed (onStack (push x)) = (refl, omega arith)
+placed (onStack pop) = (refl, omega arith)
+placed (onStack top) = (refl, omega arith)
+placed (onSet (setInsert k)) = (refl, omega arith)
+placed (onSet (setDelete k)) = (refl, omega arith)
+placed (onSet (member k)) = (refl, omega arith)
+placed (onTable (tableInsert k v)) = (refl, omega arith)
+placed (onTable (tableDelete k)) = (refl, omega arith)
+placed (onTable (lookup k)) = (refl, omega arith)
+placed (onTable size) = (refl, omega arith)
+placed (onTable (modify k v)) = (refl, omega arith)
+
+-- ---- What a rule picks
+
+module _ (whole same b : ℕ) where
+  pub picked-of : (o p : Operation) (rule : Rule) → allows rule o p ≡ false → has whole b ≡ true → (keyOf o ≡ keyOf p → has same b ≡ true)
+      → has (picked rule whole same) b ≡ true
+  picked-of o p never e h k = h
+  picked-of o p always e h k = absurd (true≢false e)
+  picked-of o p apart e h k = k (eqb-true (keyOf o) (keyOf p) (not-false (eqb (keyOf o) (keyOf p)) e))
+
+  pub picked-from : (rule : Rule) → has (picked rule whole same) b ≡ true → (has 0 b ≡ false)
+      → ((rule ≡ never) × (has whole b ≡ true)) ⊎ ((rule ≡ apart) × (has same b ≡ true))
+  picked-from never h none = inl (refl, h)
+  picked-from always h none = absurd (true≢false (sym h ∙ none))
+  picked-from apart h none = inr (refl, h)
+
+-- ---- The columns in turn
+
+module _ (rules : Kind → Rules) (number : ℕ) (whole same : List ℕ) where
+  pub picked-none : (n : ℕ) → n ≡ 0 → Holds 0 (Picked rules number whole same n)
+  picked-none n e =
+      holds-none (Picked rules number whole same n) (λ b p. some-none (λ m. has (pickedAt rules number whole same m) b ≡ true) (rw e at p))
+
+  pub picked-more : (logged at code chosen u v : ℕ) → at ≡ logged - firstOf number → firstOf number ≤ logged
+      → code ≡ codeAt (rules (kindNumbered number)) (columnOf number) (logged - firstOf number)
+      → ((which : Rule) → code ≡ codeOf which → chosen ≡ picked which (getD whole at 0) (getD same at 0))
+      → Holds u (Picked rules number whole same (logged - firstOf number)) → Members v (λ b. has u b || has chosen b)
+      → Holds v (Picked rules number whole same (logged + 1 - firstOf number))
+  picked-more logged at code chosen u v place l coded chose h joined =
+      let m = logged - firstOf number in
+      let next : logged + 1 - firstOf number ≡ m + 1 = omega arith in
+      let e : chosen ≡ pickedAt rules number whole same m =
+      rw place at (chose (ruleAt (rules (kindNumbered number)) (columnOf number) m) coded) in
+      rw next
+      (holds-same (λ b. Picked rules number whole same m b ⊎ (has chosen b ≡ true)) (Picked rules number whole same (m + 1)) v
+      (holds-join (Picked rules number whole same m) (λ b. has chosen b ≡ true) u chosen v h (λ b. (λ x. x, λ x. x)) joined)
+      (λ b. rw e (some-more (λ k. has (pickedAt rules number whole same k) b ≡ true) m)))

@@ -1,0 +1,85 @@
+-- What the operations on sets make of the predicates that tell their members.
+use Prim.Native.Nat.{ℕ, _+_, _<_}
+use mathlib.Core.Path.{_≡_, refl, sym, subst, _∙_}
+use mathlib.Core.Bool.{Bool, true, false, not, _&&_, _||_, true≢false, and-eq-true-iff}
+use mathlib.Core.Logic.{_↔_, _⊎_, inl, inr, ⊎-elim}
+use mathlib.Core.List.{List}
+use native.Mathlib.Omega.{arith}
+use borrow.Author.Tests.{eqb-true, eqb-false, eq-eqb, ne-eqb, not-true}
+use lib.Dec.{eqb}
+use lib.ListN.{getD, set, length}
+use lib.Seq.{getD-set-same, getD-set-other}
+use Rattle.operations.specs.Laws.Cases.{split, same}
+use Rattle.bitset.specs.Bitset.{has, Members}
+use Rattle.bitset.specs.Laws.{empty}
+use Rattle.dependencies.specs.Dependencies.{Holds, Represents, Some, WithOwner}
+
+-- ---- Some number below n
+
+pub some-none : (P : ℕ → Type 0) → Some P 0 → ⊥
+some-none P (i, l, p) = omega arith
+
+pub some-more : (P : ℕ → Type 0) (n : ℕ) → (Some P n ⊎ P n) ↔ Some P (n + 1)
+some-more P n = (⊎-elim old (λ p. (n, omega arith, p)), back)
+  where
+    old : Some P n → Some P (n + 1)
+    old (i, l, p) = (i, omega arith, p)
+
+    back : Some P (n + 1) → Some P n ⊎ P n
+    back (i, l, p) = same i n (λ (e : i ≡ n). inr (subst P e p)) (λ (e : i ≡ n → ⊥). inl (i, omega arith, p))
+
+-- ---- One set
+
+either : (a b : Bool) → ((a || b) ≡ true) ↔ ((a ≡ true) ⊎ (b ≡ true))
+either true b = (λ e. inl refl, λ s. refl)
+either false b = (inr, ⊎-elim (λ e. absurd (true≢false (sym e))) (λ e. e))
+
+pub holds-none : (P : ℕ → Type 0) → ((b : ℕ) → P b → ⊥) → Holds 0 P
+holds-none P none b = (λ e. absurd (true≢false (sym e ∙ empty 0 .0 refl b)), λ p. absurd (none b p))
+
+pub holds-same : (P Q : ℕ → Type 0) (s : ℕ) → Holds s P → ((b : ℕ) → P b ↔ Q b) → Holds s Q
+holds-same P Q s p e b = (λ h. e b .0 (p b .0 h), λ q. p b .1 (e b .1 q))
+
+pub holds-join : (P Q : ℕ → Type 0) (s t u : ℕ) → Holds s P → Holds t Q → Members u (λ b. has s b || has t b) → Holds u (λ b. P b ⊎ Q b)
+holds-join P Q s t u p q m b = (
+  λ e. ⊎-elim (λ f. inl (p b .0 f)) (λ f. inr (q b .0 f)) (either (has s b) (has t b) .0 (sym (m b) ∙ e)),
+  λ f. m b ∙ either (has s b) (has t b) .1 (⊎-elim (λ x. inl (p b .1 x)) (λ x. inr (q b .1 x)) f),
+)
+
+pub holds-without : (P : ℕ → Type 0) (s t u : ℕ) → Holds s P → Members u (λ b. has s b && not (eqb b t)) → Holds u (λ b. P b × (b ≡ t → ⊥))
+holds-without P s t u p m b = (
+  λ e. let both = and-eq-true-iff (has s b) (not (eqb b t)) .0 (sym (m b) ∙ e) in (p b .0 (both .0), eqb-false b t (not-true (eqb b t) (both .1))),
+  λ q. m b ∙ and-eq-true-iff (has s b) (not (eqb b t)) .1 (p b .1 (q .0), rw (ne-eqb b t (q .1))),
+)
+
+-- A set that is 0 exactly where the predicate tells nobody.
+pub holds-empty : (P : ℕ → Type 0) (s : ℕ) → Holds s P → (eqb s 0 ≡ true) ↔ ((b : ℕ) → P b → ⊥)
+holds-empty P s p = (
+  λ e b q. true≢false (sym (p b .1 q) ∙ empty s .0 (eqb-true s 0 e) b),
+  λ none. eq-eqb s 0 (empty s .1 (λ b. split (has s b) (λ (t : has s b ≡ true). absurd (none b (p b .0 t))) (λ (t : has s b ≡ false). t))),
+)
+
+-- ---- A row of sets
+
+pub represents-same : (R S : ℕ → ℕ → Type 0) (row : List ℕ) → Represents row R → ((a b : ℕ) → R a b ↔ S a b) → Represents row S
+represents-same R S row r e a = holds-same (R a) (S a) (getD row a 0) (r a) (e a)
+
+-- One set joined with another, at place t.
+pub represents-join : (R : ℕ → ℕ → Type 0) (Q : ℕ → Type 0) (row : List ℕ) (t s u : ℕ) → Represents row R → Holds s Q → t < length row
+    → Members u (λ b. has (getD row t 0) b || has s b) → Represents (set row t u) (λ a b. R a b ⊎ ((t ≡ a) × Q b))
+represents-join R Q row t s u r q l m a =
+    same a t
+    (λ (e : a ≡ t).
+    rw (e, getD-set-same row t u 0 l)
+    (holds-same (λ b. R t b ⊎ Q b) (λ b. R t b ⊎ ((t ≡ t) × Q b)) u (holds-join (R t) Q (getD row t 0) s u (r t) q m)
+    (λ b. (⊎-elim inl (λ x. inr (refl, x)), ⊎-elim inl (λ x. inr (x .1))))))
+    (λ (e : a ≡ t → ⊥).
+    rw (getD-set-other row t a u 0 e)
+    (holds-same (R a) (λ b. R a b ⊎ ((t ≡ a) × Q b)) (getD row a 0) (r a)
+    (λ b. (inl, ⊎-elim (λ x. x) (λ x. absurd (e (sym (x .0))))))))
+
+pub with-owner : (row : List ℕ) (m t s u : ℕ) → m < length row → Members s (λ b. eqb b t) → Members u (λ b. has (getD row m 0) b || has s b)
+    → WithOwner row m t (set row m u)
+with-owner row m t s u l single joined =
+    represents-join (λ n b. has (getD row n 0) b ≡ true) (λ b. t ≡ b) row m s u (λ n b. (λ e. e, λ e. e))
+    (λ b. (λ e. sym (eqb-true b t (sym (single b) ∙ e)), λ e. single b ∙ eq-eqb b t (sym e))) l joined

@@ -1,0 +1,248 @@
+// Who depends on whom: the owners of earlier entries that an entry of the log is not recoverable against, or does not commute with.
+// An entry is held against sets of owners, one for each operation of its object's kind, and not against each earlier entry.
+ghost use mathlib.Core.Path.{_≡_};
+ghost use mathlib.Core.Bool.{true};
+ghost use mathlib.Core.Logic.{_↔_};
+ghost use Prim.Native.Nat.{_+_, _-_, _<_, _≤_};
+ghost use Rattle.operations.specs.PairRules.{Rule, recoverableRules, commutingRules};
+ghost use Rattle.pairs.specs.Pairs.{codeOf, codeAt};
+ghost use Rattle.pairs.specs.Laws.{Within};
+ghost use Rattle.store.specs.Layout.{word, base, decode, Packed};
+ghost use Rattle.store.specs.Soundness.{EntriesLive, EntriesFit, EntriesRecoverable};
+ghost use Rattle.store.specs.Dependency.{DependsOn};
+ghost use Rattle.dependencies.specs.Dependencies.{Holds, Represents, Readable, Barred, Numbered, kindNumbered, firstOf, lastOf, columnOf, picked as Pick, Picked, WithOwner, Alike, Gathered, slotAt, Latest, Chained};
+
+// Whether each entry is recoverable against every earlier one of another transaction, and for each transaction those that it depends on.
+pub struct LogConflicts {
+    pub recoverable: bool,
+    pub dependencies: [u64; 64],
+}
+
+// The owners that bar an entry, its own transaction left out: those that it is not recoverable against, and those that it does not commute with.
+struct Blockers {
+    unrecoverable: u64,
+    conflicting: u64,
+}
+
+// The owners of some entries, a set for each operation of the object's kind.
+type Owners = [u64; 5];
+
+fn wide(x: u32) -> usize
+    ensures { λ r. ⌜ r ≡ x ⌝ }
+{
+    x as usize
+}
+
+// ---- Operations by number
+
+// The first number of a number's kind.
+fn first(number: u32) -> u32
+    requires { ⌜ Numbered number ⌝ }
+    ensures { λ r. ⌜ r ≡ firstOf number ⌝ }
+{
+    if number <= 3 {
+        return 1;
+    }
+    if number <= 6 {
+        return 4;
+    }
+    7
+}
+
+// The last.
+fn last(number: u32) -> u32
+    requires { ⌜ Numbered number ⌝ }
+    ensures { λ r. ⌜ r ≡ lastOf number ⌝ }
+{
+    if number <= 3 {
+        return 3;
+    }
+    if number <= 6 {
+        return 6;
+    }
+    11
+}
+
+fn recoverable_rule(requested: u32, logged: u32) -> u8
+    requires { ⌜ Within (kindNumbered requested) requested logged ⌝ }
+    ensures { λ r. ⌜ r ≡ codeAt (recoverableRules (kindNumbered requested)) (columnOf requested) (logged - firstOf requested) ⌝ }
+{
+    if requested <= 3 {
+        return pairs::stack_recoverable(requested, logged);
+    }
+    if requested <= 6 {
+        return pairs::set_recoverable(requested, logged);
+    }
+    pairs::table_recoverable(requested, logged)
+}
+
+fn commuting_rule(requested: u32, logged: u32) -> u8
+    requires { ⌜ Within (kindNumbered requested) requested logged ⌝ }
+    ensures { λ r. ⌜ r ≡ codeAt (commutingRules (kindNumbered requested)) (columnOf requested) (logged - firstOf requested) ⌝ }
+{
+    if requested <= 3 {
+        return pairs::stack_commuting(requested, logged);
+    }
+    if requested <= 6 {
+        return pairs::set_commuting(requested, logged);
+    }
+    pairs::table_commuting(requested, logged)
+}
+
+// What a rule picks: the owners of entries on the object, or of those with the same key, or nobody.
+fn pick(rule: u8, whole: u64, same: u64) -> u64
+    ensures { λ r. ⌜ ((which : Rule) → rule ≡ codeOf which → r ≡ Pick which whole same) ⌝ }
+{
+    match rule {
+        pairs::NEVER => whole,
+        pairs::ALWAYS => 0,
+        _ => same,
+    }
+}
+
+// The owners that bar an operation, out of those on its object and those with its key too.
+fn barring(number: u32, whole: Owners, same: Owners) -> Blockers
+    requires { ⌜ Numbered number ⌝ }
+    ensures { λ r. ⌜ Holds (r .unrecoverable) (Picked recoverableRules number whole same (lastOf number + 1 - firstOf number)) × Holds (r .conflicting) (Picked commutingRules number whole same (lastOf number + 1 - firstOf number)) ⌝ }
+{
+    let start = first(number);
+    let end = last(number) + 1;
+    let mut unrecoverable: u64 = 0;
+    let mut conflicting: u64 = 0;
+    for logged in start..end {
+        let at = wide(logged - start);
+        unrecoverable = bitset::join(
+            unrecoverable,
+            pick(recoverable_rule(number, logged), whole[at], same[at]),
+        );
+        conflicting = bitset::join(
+            conflicting,
+            pick(commuting_rule(number, logged), whole[at], same[at]),
+        );
+    }
+    Blockers {
+        unrecoverable: unrecoverable,
+        conflicting: conflicting,
+    }
+}
+
+fn with_owner(row: Owners, number: u32, owner: u32) -> Owners
+    requires { ⌜ Numbered number × (owner < 64) ⌝ }
+    ensures { λ r. ⌜ WithOwner row (columnOf number) owner r ⌝ }
+{
+    let mut row = row;
+    let at = wide(number - first(number));
+    row[at] = bitset::join(row[at], bitset::single(owner));
+    row
+}
+
+// ---- Entries found again by object and key
+
+fn alike(book: &[u32], i: usize, j: usize) -> bool
+    requires { ⌜ Readable (now book) × (i < word (now book) 0) × (j < word (now book) 0) ⌝ }
+    ensures { λ r. ⌜ (r ≡ true) ↔ Alike (now (book .entry)) i j ⌝ }
+{
+    if layout::entry_object(book, j) != layout::entry_object(book, i) {
+        return false;
+    }
+    let logged = layout::entry_operation(book, j);
+    let requested = layout::entry_operation(book, i);
+    logged.key == requested.key
+}
+
+fn slot(book: &[u32], i: usize) -> usize
+    requires { ⌜ Readable (now book) × (i < word (now book) 0) ⌝ }
+    ensures { λ r. ⌜ (r ≡ slotAt (now (book .entry)) i) × (r < 256) ⌝ }
+{
+    let operation = layout::entry_operation(book, i);
+    wide((operation.key % 256 + 16 * layout::entry_object(book, i)) % 256)
+}
+
+// The latest earlier entry with the object and key of entry `i`, plus one; 0 where there is none.
+fn latest(book: &[u32], i: usize, heads: &[usize; 256], links: &[usize; 257]) -> usize
+    requires { ⌜ Readable (now book) × (i < word (now book) 0) × Chained (now book) i (now heads) (now links) ⌝ }
+    ensures { λ r. ⌜ Latest (Alike (now (book .entry)) i) i r ⌝ }
+{
+    let mut at = heads[slot(book, i)];
+    while at != 0 {
+        if alike(book, i, at - 1) {
+            return at;
+        }
+        at = links[at];
+    }
+    0
+}
+
+fn chain(book: &[u32], i: usize, heads: &mut [usize; 256], links: &mut [usize; 257])
+    requires { ⌜ Readable (now book) × (i < word (now book) 0) × Chained (now book) i (now heads) (now links) ⌝ }
+    ensures { λ r. ⌜ Chained (now (book .entry)) (i + 1) (now (heads .exit)) (now (links .exit)) ⌝ }
+{
+    let at = slot(book, i);
+    links[i + 1] = heads[at];
+    heads[at] = i + 1;
+}
+
+// ---- Entry by entry
+
+fn blocking(
+    book: &[u32],
+    i: usize,
+    at: usize,
+    whole: &[Owners; 16],
+    same: &[Owners; 257],
+) -> Blockers
+    requires { ⌜ Readable (now book) × (i < word (now book) 0) × Latest (Alike (now book) i) i at × Gathered (now book) i (now whole) (now same) ⌝ }
+    ensures { λ r. ⌜ Barred (now (book .entry)) i (r .unrecoverable) (r .conflicting) ⌝ }
+{
+    let operation = layout::entry_operation(book, i);
+    let object = wide(layout::entry_object(book, i));
+    let owner = layout::entry_transaction(book, i);
+    let found = barring(operation.number, whole[object], same[at]);
+    Blockers {
+        unrecoverable: bitset::without(found.unrecoverable, owner),
+        conflicting: bitset::without(found.conflicting, owner),
+    }
+}
+
+fn gather(book: &[u32], i: usize, at: usize, whole: &mut [Owners; 16], same: &mut [Owners; 257])
+    requires { ⌜ Readable (now book) × (i < word (now book) 0) × Latest (Alike (now book) i) i at × Gathered (now book) i (now whole) (now same) ⌝ }
+    ensures { λ r. ⌜ Gathered (now (book .entry)) (i + 1) (now (whole .exit)) (now (same .exit)) ⌝ }
+{
+    let operation = layout::entry_operation(book, i);
+    let object = wide(layout::entry_object(book, i));
+    let owner = layout::entry_transaction(book, i);
+    whole[object] = with_owner(whole[object], operation.number, owner);
+    same[i + 1] = with_owner(same[at], operation.number, owner);
+}
+
+pub fn conflicts(book: &[u32]) -> LogConflicts
+    requires { ⌜ Packed base (now book) × EntriesLive base (decode base (now book)) × EntriesFit base (decode base (now book)) ⌝ }
+    ensures { λ r. ⌜ ((r .recoverable ≡ true) ↔ EntriesRecoverable base (decode base (now (book .entry)))) × Represents (r .dependencies) (DependsOn (decode base (now (book .entry)) .log)) ⌝ }
+{
+    let count = layout::entry_count(book);
+    let mut dependencies = [0u64; 64];
+    if count == 0 {
+        return LogConflicts {
+            recoverable: true,
+            dependencies: dependencies,
+        };
+    }
+    let mut whole = [[0u64; 5]; 16];
+    let mut same = [[0u64; 5]; 257];
+    let mut heads = [0usize; 256];
+    let mut links = [0usize; 257];
+    let mut unrecoverable: u64 = 0;
+    for i in 0..count {
+        let at = latest(book, i, &heads, &links);
+        let found = blocking(book, i, at, &whole, &same);
+        let requester = wide(layout::entry_transaction(book, i));
+        dependencies[requester] = bitset::join(dependencies[requester], found.conflicting);
+        unrecoverable = bitset::join(unrecoverable, found.unrecoverable);
+        chain(book, i, &mut heads, &mut links);
+        gather(book, i, at, &mut whole, &mut same);
+    }
+    LogConflicts {
+        recoverable: unrecoverable == 0,
+        dependencies: dependencies,
+    }
+}
