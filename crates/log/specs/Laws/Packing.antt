@@ -23,7 +23,7 @@ yes p = (λ e. p, λ q. refl)
 pub no : {P : Type 0} → (P → ⊥) → (false ≡ true) ↔ P
 no refuted = (λ e. absurd (true≢false (sym e)), λ p. absurd (refuted p))
 
-pub zero-test : {P : Type 0} (x : ℕ) → (x ≡ 0) ↔ P → (eqb x 0 ≡ true) ↔ P
+zero-test : {P : Type 0} (x : ℕ) → (x ≡ 0) ↔ P → (eqb x 0 ≡ true) ↔ P
 zero-test x p = (λ e. p .0 (eqb-true x 0 e), λ q. eq-eqb x 0 (p .1 q))
 
 -- ---- One operation
@@ -39,26 +39,25 @@ module _ (n k v : ℕ) where
   at : (P : Type 0) (m : ℕ) → n ≡ m → P ↔ Kept m k v → P ↔ Kept n k v
   at P m e h = subst (λ (j : ℕ). P ↔ Kept j k v) (sym e) h
 
-  bare : (m : ℕ) → n ≡ m → ((k ≡ 0) × (v ≡ 0)) ↔ Kept m k v → ((k ≡ 0) × (v ≡ 0)) ↔ Kept n k v
-  bare = at ((k ≡ 0) × (v ≡ 0))
+  -- Without arguments and with a key alone: what is kept, as it computes at a number m.
+  bare : (m : ℕ) → ((k ≡ 0) × (v ≡ 0)) ↔ ((m ≡ m) × (0 ≡ k) × (0 ≡ v))
+  bare m = (λ z. (refl, sym (z .0), sym (z .1)), λ h. (sym (h .1), sym (h .2)))
 
-  keyed : (m : ℕ) → n ≡ m → (v ≡ 0) ↔ Kept m k v → (v ≡ 0) ↔ Kept n k v
-  keyed = at (v ≡ 0)
+  keyed : (m : ℕ) → (v ≡ 0) ↔ ((m ≡ m) × (k ≡ k) × (0 ≡ v))
+  keyed m = (λ z. (refl, refl, sym z), λ h. sym (h .2))
 
   kept-bare : Bare n → ((k ≡ 0) × (v ≡ 0)) ↔ Kept n k v
-  kept-bare (inl e) = bare 10 e (λ z. (refl, sym (z .0), sym (z .1)), λ h. (sym (h .1), sym (h .2)))
-  kept-bare (inr (l, m, n1)) =
-      same n 2 (λ e. bare 2 e (λ z. (refl, sym (z .0), sym (z .1)), λ h. (sym (h .1), sym (h .2))))
-      (λ n2. bare 3 (omega arith) (λ z. (refl, sym (z .0), sym (z .1)), λ h. (sym (h .1), sym (h .2))))
+  kept-bare (inl e) = at _ 10 e (bare 10)
+  kept-bare (inr (l, m, n1)) = same n 2 (λ e. at _ 2 e (bare 2)) (λ n2. at _ 3 (omega arith) (bare 3))
 
   kept-keyed : KeyAlone n → (v ≡ 0) ↔ Kept n k v
-  kept-keyed (inl e) = keyed 1 e (λ z. (refl, refl, sym z), λ h. sym (h .2))
+  kept-keyed (inl e) = at _ 1 e (keyed 1)
   kept-keyed (inr (l, m, n7)) =
-      same n 4 (λ e. keyed 4 e (λ z. (refl, refl, sym z), λ h. sym (h .2)))
-      (λ n4. same n 5 (λ e. keyed 5 e (λ z. (refl, refl, sym z), λ h. sym (h .2)))
-      (λ n5. same n 6 (λ e. keyed 6 e (λ z. (refl, refl, sym z), λ h. sym (h .2)))
-      (λ n6. same n 8 (λ e. keyed 8 e (λ z. (refl, refl, sym z), λ h. sym (h .2)))
-      (λ n8. keyed 9 (omega arith) (λ z. (refl, refl, sym z), λ h. sym (h .2))))))
+      same n 4 (λ e. at _ 4 e (keyed 4))
+      (λ n4. same n 5 (λ e. at _ 5 e (keyed 5))
+      (λ n5. same n 6 (λ e. at _ 6 e (keyed 6))
+      (λ n6. same n 8 (λ e. at _ 8 e (keyed 8))
+      (λ n8. at _ 9 (omega arith) (keyed 9)))))
 
   pub kept-both : (n ≡ 7) ⊎ (n ≡ 11) → Kept n k v
   kept-both (inl e) = subst (λ (j : ℕ). Kept j k v) (sym e) (refl, refl, refl)
