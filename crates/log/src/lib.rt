@@ -3,10 +3,15 @@ use operations::Operation;
 ghost use mathlib.Core.Path.{_≡_};
 ghost use mathlib.Core.Logic.{_↔_};
 ghost use mathlib.Core.Bool.{true};
-ghost use Prim.Native.Nat.{ℕ, _≤_, _<_};
+ghost use mathlib.Core.Option.{some};
+ghost use Prim.Native.Nat.{ℕ, _+_, _≤_, _<_};
 ghost use lib.ListN.{length};
-ghost use Rattle.store.specs.Layout.{AsStored};
-ghost use Rattle.log.specs.Log.{Kept, LogPacked};
+ghost use Rattle.bitset.specs.Bitset.{has};
+ghost use Rattle.operations.specs.Operations.{StoredKey, reduceKey, kindOf};
+ghost use Rattle.store.specs.Store.{Live, objectOf};
+ghost use Rattle.store.specs.Layout.{Packed, base, decode, word, entryStart, entryAt, operationAt, AsStored};
+ghost use Rattle.store.specs.Soundness.{EntriesLive, EntriesFit, KeysReduced};
+ghost use Rattle.log.specs.Log.{LogPacked, Kept, kindBy, EntryFits};
 
 // Whether the words are those that are stored for an operation: its number is in range, and an argument that it does not use is 0.
 fn is_stored(operation: Operation) -> bool
@@ -47,4 +52,81 @@ pub fn packed(book: &[u32]) -> bool
     }
     let start = layout::LOG + layout::ENTRY * count;
     layout::is_zero(&book[start..])
+}
+
+// Reduced keys are below this.
+const KEYS: u32 = 16777216;
+
+fn wide(x: u32) -> usize
+    ensures { λ r. ⌜ r ≡ x ⌝ }
+{
+    x as usize
+}
+
+// The kind that an operation is of, by its number.
+fn kind_of(number: u32) -> u32
+    ensures { λ r. ⌜ r ≡ kindBy number ⌝ }
+{
+    if number < 4 {
+        return 1;
+    }
+    if number < 7 {
+        return 2;
+    }
+    3
+}
+
+fn is_live(book: &[u32], live: u64, i: usize) -> bool
+    requires { ⌜ (length (now book) ≡ 3937) × (i < 256) × ((t : ℕ) → (has live t ≡ true) ↔ Live (decode base (now book)) t) ⌝ }
+    ensures { λ r. ⌜ (r ≡ true) ↔ Live (decode base (now (book .entry))) (word (now (book .entry)) (entryStart i)) ⌝ }
+{
+    let transaction = layout::entry_transaction(book, i);
+    if transaction >= 64 {
+        return false;
+    }
+    bitset::contains(live, transaction)
+}
+
+fn of_kind(book: &[u32], i: usize) -> bool
+    requires { ⌜ Packed base (now book) × (i < word (now book) 0) ⌝ }
+    ensures { λ r. ⌜ (r ≡ true) ↔ (objectOf (decode base (now (book .entry))) (word (now (book .entry)) (entryStart i + 1)) .kind ≡ some (kindOf (operationAt (now (book .entry)) i))) ⌝ }
+{
+    let object = layout::entry_object(book, i);
+    if object >= 16 {
+        return false;
+    }
+    let operation = layout::entry_operation(book, i);
+    layout::object_kind(book, wide(object)) == kind_of(operation.number)
+}
+
+fn is_reduced(book: &[u32], i: usize) -> bool
+    requires { ⌜ Packed base (now book) × (i < word (now book) 0) ⌝ }
+    ensures { λ r. ⌜ (r ≡ true) ↔ StoredKey reduceKey (operationAt (now (book .entry)) i) ⌝ }
+{
+    let operation = layout::entry_operation(book, i);
+    kind_of(operation.number) == 1 || operation.key < KEYS
+}
+
+fn entry_fits(book: &[u32], live: u64, i: usize) -> bool
+    requires { ⌜ Packed base (now book) × (i < word (now book) 0) × ((t : ℕ) → (has live t ≡ true) ↔ Live (decode base (now book)) t) ⌝ }
+    ensures { λ r. ⌜ (r ≡ true) ↔ EntryFits (now (book .entry)) i ⌝ }
+{
+    if !is_live(book, live, i) {
+        return false;
+    }
+    of_kind(book, i) && is_reduced(book, i)
+}
+
+// Whether each entry belongs to a live transaction, fits its object's kind and has a reduced key.
+pub fn fits(book: &[u32], live: u64) -> bool
+    requires { ⌜ Packed base (now book) × ((t : ℕ) → (has live t ≡ true) ↔ Live (decode base (now book)) t) ⌝ }
+    ensures { λ r. ⌜ (r ≡ true) ↔ (EntriesLive base (decode base (now (book .entry))) × EntriesFit base (decode base (now (book .entry))) × KeysReduced base (decode base (now (book .entry)))) ⌝ }
+{
+    let count = layout::entry_count(book);
+    for i in 0..count {
+        if !entry_fits(book, live, i) {
+            return false;
+        }
+    }
+    true
 }

@@ -16,12 +16,15 @@ use Rattle.operations.specs.Laws.Cases.{same}
 use Rattle.store.specs.Layout.{word, orPop, entryStart, AsStored}
 use Rattle.log.specs.Log.{LogPacked, Kept}
 
--- What a check says where it is left.
-pub yes : {P : Type 0} → P → (true ≡ true) ↔ P
-yes p = (λ e. p, λ q. refl)
+-- What a test says of a fact.
+pub yes : {P : Type 0} {b : Bool} → b ≡ true → P → (b ≡ true) ↔ P
+yes e p = (λ q. p, λ q. e)
 
-pub no : {P : Type 0} → (P → ⊥) → (false ≡ true) ↔ P
-no refuted = (λ e. absurd (true≢false (sym e)), λ p. absurd (refuted p))
+pub no : {P : Type 0} {b : Bool} → b ≡ false → (P → ⊥) → (b ≡ true) ↔ P
+no e refuted = (λ q. absurd (true≢false (sym q ∙ e)), λ p. absurd (refuted p))
+
+pub fails : {P : Type 0} {b : Bool} → b ≡ false → (b ≡ true) ↔ P → P → ⊥
+fails e h p = true≢false (sym (h .1 p) ∙ e)
 
 zero-test : {P : Type 0} (x : ℕ) → (x ≡ 0) ↔ P → (eqb x 0 ≡ true) ↔ P
 zero-test x p = (λ e. p .0 (eqb-true x 0 e), λ q. eq-eqb x 0 (p .1 q))
@@ -99,19 +102,19 @@ module _ (P : ℕ → Type 0) (n : ℕ) where
   Each = (i : ℕ) → i < n → P i
 
   pub each-refuted : (i : ℕ) (b : Bool) → i < n → b ≡ false → (b ≡ true) ↔ P i → (false ≡ true) ↔ Each
-  each-refuted i b l e h = no (λ each. true≢false (sym (h .1 (each i l)) ∙ e))
+  each-refuted i b l e h = no refl (λ each. fails e h (each i l))
 
   pub each-shown : (i : ℕ) → n ≤ i → ((k : ℕ) → k < i → P k) → (true ≡ true) ↔ Each
-  each-shown i l h = yes (λ k m. h k (omega arith))
+  each-shown i l h = yes refl (λ k m. h k (omega arith))
 
 -- ---- The whole log
 
 module _ (w : List ℕ) (n : ℕ) (counted : n ≡ word w 0) where
   pub too-many : 256 < n → (false ≡ true) ↔ LogPacked w
-  too-many l = no (λ p. omega (arith, p .0))
+  too-many l = no refl (λ p. omega (arith, p .0))
 
   pub not-stored : (b : Bool) → b ≡ false → (b ≡ true) ↔ Each (AsStored w) n → (false ≡ true) ↔ LogPacked w
-  not-stored b e h = no (λ p. true≢false (sym (h .1 (rw counted (p .1))) ∙ e))
+  not-stored b e h = no refl (λ p. fails e h (rw counted (p .1)))
 
   -- The words from place a on, as a part of w that is lent.
   abbrev pub from : ℕ → List ℕ
