@@ -1,2 +1,4 @@
 pub mod Packing
 pub mod Fitting
+pub mod Sets
+pub mod Writing

@@ -1,13 +1,16 @@
 -- What the functions of the log say of the book's words.
-use Prim.Native.Nat.{ℕ, _≤_, _<_}
+use Prim.Native.Nat.{ℕ, _+_, _≤_, _<_}
 use mathlib.Core.Path.{_≡_}
 use mathlib.Core.Bool.{cond}
 use mathlib.Core.Option.{some}
-use mathlib.Core.List.{List}
+use mathlib.Core.List.{List, [], _∷_}
 use lib.Dec.{ltb}
 use Rattle.operations.specs.Operations as model
-use Rattle.store.specs.Store.{Live, objectOf}
+use Rattle.operations.specs.declared.Operation.{Operation}
+use Rattle.operations.specs.declared.Reply.{Reply}
+use Rattle.store.specs.Store.{Logged, Live, objectOf}
 use Rattle.store.specs.Layout.{base, decode, word, orPop, entryStart, entryAt, AsStored}
+use Rattle.store.specs.Steps.{without}
 
 -- Ranges and zeros of the log: the fields `entries`, `asStored` and `unused` of `Packed`.
 abbrev pub LogPacked : List ℕ → Type 0
@@ -30,3 +33,24 @@ EntryFits w i =
     let l = entryAt w i in
     let o = l .entry .operation in
     Live s (l .entry .transaction) × (objectOf s (l .object) .kind ≡ some (model.kindOf o)) × model.StoredKey model.reduceKey o
+
+-- The code's operation is what is stored for the model's.
+abbrev pub StoredAs : Operation → model.Operation → Type 0
+StoredAs operation o = (operation .number ≡ model.numberOf o) × (operation .key ≡ model.keyOf o) × (operation .value ≡ model.valueOf o)
+
+abbrev pub logged : ℕ → ℕ → model.Operation → model.Reply → Logged
+logged transaction object o answer = record { object = object; entry = record { transaction = transaction; operation = o; answer = answer } }
+
+-- An entry's words: of its parts, and read from the book.
+abbrev pub wordsOf : ℕ → ℕ → Operation → Reply → List ℕ
+wordsOf transaction object operation answer =
+    transaction ∷ object ∷ operation .number ∷ operation .key ∷ operation .value ∷ answer .code ∷ answer .value ∷ []
+
+abbrev pub wordsAt : List ℕ → ℕ → List ℕ
+wordsAt w i =
+    let start = entryStart i in
+    word w start ∷ word w (start + 1) ∷ word w (start + 2) ∷ word w (start + 3) ∷ word w (start + 4) ∷ word w (start + 5) ∷ word w (start + 6) ∷ []
+
+-- The log without a transaction's entries.
+abbrev pub remaining : ℕ → List ℕ → List Logged
+remaining t w = without t (decode base w .log)

@@ -1,17 +1,22 @@
 // The log in the book: word 0, and the entries from word 2,145 on.
 use operations::Operation;
+use operations::Reply;
 ghost use mathlib.Core.Path.{_≡_};
 ghost use mathlib.Core.Logic.{_↔_};
 ghost use mathlib.Core.Bool.{true};
 ghost use mathlib.Core.Option.{some};
-ghost use Prim.Native.Nat.{ℕ, _+_, _≤_, _<_};
-ghost use lib.ListN.{length};
+ghost use Prim.Native.Nat.{ℕ, _+_, _-_, _≤_, _<_};
+ghost use lib.ListN.{length, replicate};
+ghost use lib.Seq.{sets};
 ghost use Rattle.bitset.specs.Bitset.{has};
+ghost use Rattle.operations.specs.Operations as model;
 ghost use Rattle.operations.specs.Operations.{StoredKey, reduceKey, kindOf};
+ghost use Rattle.operations.specs.Stored.{asReply};
 ghost use Rattle.store.specs.Store.{Live, objectOf};
-ghost use Rattle.store.specs.Layout.{Packed, base, decode, word, entryStart, entryAt, operationAt, AsStored};
+ghost use Rattle.store.specs.Layout.{Packed, base, encode, decode, joined, word, entryStart, entryWords, operationAt, AsStored};
+ghost use Rattle.store.specs.Steps.{appended, dropped, without};
 ghost use Rattle.store.specs.Soundness.{EntriesLive, EntriesFit, KeysReduced};
-ghost use Rattle.log.specs.Log.{LogPacked, Kept, kindBy, EntryFits};
+ghost use Rattle.log.specs.Log.{LogPacked, Kept, kindBy, EntryFits, StoredAs, logged, wordsOf, wordsAt, remaining};
 
 // Whether the words are those that are stored for an operation: its number is in range, and an argument that it does not use is 0.
 fn is_stored(operation: Operation) -> bool
@@ -129,4 +134,88 @@ pub fn fits(book: &[u32], live: u64) -> bool
         }
     }
     true
+}
+
+// An entry's seven words, put at place i of the log.
+fn put(
+    book: &mut [u32],
+    i: usize,
+    transaction: u32,
+    object: u32,
+    operation: Operation,
+    answer: Reply,
+)
+    requires { ⌜ (length (now book) ≡ 3937) × (i < 256) ⌝ }
+    ensures { λ r. ⌜ now (book .exit) ≡ sets (now (book .entry)) (entryStart i) (wordsOf transaction object operation answer) ⌝ }
+{
+    let start = layout::LOG + layout::ENTRY * i;
+    book[start] = transaction;
+    book[start + 1] = object;
+    book[start + 2] = operation.number;
+    book[start + 3] = operation.key;
+    book[start + 4] = operation.value;
+    book[start + 5] = answer.code;
+    book[start + 6] = answer.value;
+}
+
+// An entry put last.
+pub fn append(book: &mut [u32], transaction: u32, object: u32, operation: Operation, answer: Reply)
+    requires { ⌜ Packed base (now book) × (word (now book) 0 < 256) ⌝ }
+    ensures { λ r. ⌜ ((o : model.Operation) → StoredAs operation o → now (book .exit) ≡ encode base (appended (logged transaction object o (asReply answer)) (decode base (now (book .entry))))) ⌝ }
+{
+    let count = layout::entry_count(book);
+    put(book, count, transaction, object, operation, answer);
+    book[0] += 1;
+}
+
+// The words of one entry, written over those of another.
+fn shift(book: &mut [u32], from: usize, to: usize)
+    requires { ⌜ (length (now book) ≡ 3937) × (from < 256) × (to < 256) ⌝ }
+    ensures { λ r. ⌜ now (book .exit) ≡ sets (now (book .entry)) (entryStart to) (wordsAt (now (book .entry)) from) ⌝ }
+{
+    let transaction = layout::entry_transaction(book, from);
+    let object = layout::entry_object(book, from);
+    let operation = layout::entry_operation(book, from);
+    let answer = layout::entry_answer(book, from);
+    put(book, to, transaction, object, operation, answer);
+}
+
+// The entries of other transactions, moved to the front of the log, and their number.
+fn gather(book: &mut [u32], transaction: u32) -> usize
+    requires { ⌜ Packed base (now book) ⌝ }
+    ensures { λ r. ⌜ (r ≤ word (now (book .entry)) 0) × (r ≡ length (remaining transaction (now (book .entry)))) × (now (book .exit) ≡ sets (now (book .entry)) 2145 (joined entryWords (remaining transaction (now (book .entry))))) ⌝ }
+{
+    let count = layout::entry_count(book);
+    let mut kept: usize = 0;
+    for i in 0..count {
+        if layout::entry_transaction(book, i) != transaction {
+            shift(book, i, kept);
+            kept += 1;
+        }
+    }
+    kept
+}
+
+fn clear(book: &mut [u32], start: usize, end: usize)
+    requires { ⌜ (start ≤ end) × (end ≤ length (now book)) ⌝ }
+    ensures { λ r. ⌜ now (book .exit) ≡ sets (now (book .entry)) start (replicate (end - start) 0) ⌝ }
+{
+    for i in start..end {
+        book[i] = 0;
+    }
+}
+
+// The entries of one transaction leave the log.
+pub fn remove(book: &mut [u32], transaction: u32)
+    requires { ⌜ Packed base (now book) ⌝ }
+    ensures { λ r. ⌜ now (book .exit) ≡ encode base (dropped transaction (decode base (now (book .entry)))) ⌝ }
+{
+    let count = layout::entry_count(book);
+    let kept = gather(book, transaction);
+    clear(
+        book,
+        layout::LOG + layout::ENTRY * kept,
+        layout::LOG + layout::ENTRY * count,
+    );
+    book[0] = kept as u32;
 }

@@ -1,0 +1,58 @@
+-- `log::gather`: of the entries before i, those of other transactions stand at the front.
+use Prim.Native.Nat.{ℕ, _+_, _-_, _≤_, _<_}
+use mathlib.Core.Path.{_≡_, sym, _∙_, subst}
+use mathlib.Core.List.{List}
+use mathlib.Core.Logic.{⊎-elim}
+use native.Mathlib.Omega.{arith}
+use borrow.Author.Needs.{needs}
+use lib.ListN.{length}
+use Rattle.log.specs.Laws.Writing.{Gathered, gathered-none, gathered-own, gathered-kept, gathered-all}
+use Rattle.log.proofs.gather.Statement.{statement}
+use Rattle.log.proofs.gather.Tie as tie
+
+abbrev Inv-loop : tie.InvT-loop
+Inv-loop book₀ transaction count kept₀ i₀ book kept i = (i ≤ count) × Gathered book₀ transaction i book kept
+
+abbrev μ-loop : tie.MeasureT-loop
+μ-loop book₀ transaction count kept₀ i₀ book kept i = count - i
+
+loop-holds : tie.Need-loop-holds Inv-loop μ-loop
+loop-holds c = (omega arith, gathered-none _ _)
+
+next : (c : tie.Joined1 Inv-loop μ-loop)
+    → Gathered (c .before .before .before .before .before .before .before .before .args .book .now) (c .before .before .before .before .before .before .before .before .args .transaction)
+    (c .before .before .before .before .loop .i + 1) (c .if1 .book) (c .if1 .kept)
+next c =
+    let read = c .before in
+    let at-loop = read .before .before .before in
+    let counted = at-loop .before in
+    let start = counted .before .before .before in
+    ⊎-elim
+    (λ w. rw (w .5, w .6) (gathered-kept _ _ _ _ _ (at-loop .loop .inv .1) _ _ (start .pre .asStored _ (omega (arith, counted .entry-count .ensures, read .before .before .loop-test .taken))) (read .entry-transaction .ensures) (w .0 .taken) (w .2 .ensures)))
+    (λ w. rw (w .1, w .2) (gathered-own _ _ _ _ _ (at-loop .loop .inv .1) _ (read .entry-transaction .ensures) (w .0 .left)))
+    (c .if1 .came)
+
+loop-again : tie.Need-loop-again Inv-loop μ-loop
+loop-again c = (omega arith, next c)
+
+returns : tie.Need-returns Inv-loop μ-loop
+returns c =
+    let at-loop = c .before in
+    gathered-all _ _ _ _ _ _ (at-loop .before .entry-count .ensures) (at-loop .loop .inv .0) (c .loop-test .left) (at-loop .loop .inv .1)
+
+pub gather-spec : {M : Type 1} → statement M
+gather-spec =
+    tie.close
+    (tie.spec
+    Inv-loop
+    μ-loop
+    (λ c κs. search needs)
+    loop-holds
+    (λ c κs. search needs)
+    (λ c κs. search needs)
+    (λ c. search needs)
+    (λ c. search needs)
+    (λ c. search needs)
+    loop-again
+    (λ c. search needs)
+    returns)
