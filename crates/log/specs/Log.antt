@@ -5,11 +5,13 @@ use mathlib.Core.Bool.{cond}
 use mathlib.Core.Option.{some}
 use mathlib.Core.List.{List, [], _∷_}
 use lib.Dec.{ltb}
+use lib.ListN.{length}
+use lib.Seq.{sets}
 use Rattle.operations.specs.Operations as model
 use Rattle.operations.specs.declared.Operation.{Operation}
 use Rattle.operations.specs.declared.Reply.{Reply}
 use Rattle.store.specs.Store.{Logged, Live, objectOf}
-use Rattle.store.specs.Layout.{base, decode, word, orPop, entryStart, entryAt, AsStored}
+use Rattle.store.specs.Layout.{base, decode, joined, tabulate, word, orPop, entryStart, entryWords, entryAt, AsStored}
 use Rattle.store.specs.Steps.{without}
 
 -- Ranges and zeros of the log: the fields `entries`, `asStored` and `unused` of `Packed`.
@@ -51,6 +53,13 @@ wordsAt w i =
     let start = entryStart i in
     word w start ∷ word w (start + 1) ∷ word w (start + 2) ∷ word w (start + 3) ∷ word w (start + 4) ∷ word w (start + 5) ∷ word w (start + 6) ∷ []
 
--- The log without a transaction's entries.
-abbrev pub remaining : ℕ → List ℕ → List Logged
-remaining t w = without t (decode base w .log)
+-- The entries before entry i that are not the transaction's.
+abbrev pub others : List ℕ → ℕ → ℕ → List Logged
+others w t i = without t (tabulate i (entryAt w))
+
+-- The book is w with those entries, `kept` in number, written over the log's first words.
+pub record Gathered (w : List ℕ) (t i : ℕ) (book : List ℕ) (kept : ℕ) : Type 0 where
+  pub few : kept ≤ i
+  pub count : kept ≡ length (others w t i)
+  pub size : length book ≡ length w
+  pub words : book ≡ sets w 2_145 (joined entryWords (others w t i))

@@ -10,13 +10,21 @@ ghost use lib.ListN.{length, replicate};
 ghost use lib.Seq.{sets};
 ghost use Rattle.bitset.specs.Bitset.{has};
 ghost use Rattle.operations.specs.Operations as model;
-ghost use Rattle.operations.specs.Operations.{StoredKey, reduceKey, kindOf};
 ghost use Rattle.operations.specs.Stored.{asReply};
 ghost use Rattle.store.specs.Store.{Live, objectOf};
-ghost use Rattle.store.specs.Layout.{Packed, base, encode, decode, joined, word, entryStart, entryWords, operationAt, AsStored};
-ghost use Rattle.store.specs.Steps.{appended, dropped, without};
+ghost use Rattle.store.specs.Layout.{Packed, base, encode, decode, word, entryStart, operationAt, AsStored};
+ghost use Rattle.store.specs.Steps.{appended, dropped};
 ghost use Rattle.store.specs.Soundness.{EntriesLive, EntriesFit, KeysReduced};
-ghost use Rattle.log.specs.Log.{LogPacked, Kept, kindBy, EntryFits, StoredAs, logged, wordsOf, wordsAt, remaining};
+ghost use Rattle.log.specs.Log.{LogPacked, Kept, kindBy, EntryFits, StoredAs, logged, wordsOf, wordsAt, Gathered};
+
+// Reduced keys are below this.
+const KEYS: u32 = 16_777_216;
+
+fn wide(x: u32) -> usize
+    ensures { λ r. ⌜ r ≡ x ⌝ }
+{
+    x as usize
+}
 
 // Whether the words are those that are stored for an operation: its number is in range, and an argument that it does not use is 0.
 fn is_stored(operation: Operation) -> bool
@@ -59,15 +67,6 @@ pub fn packed(book: &[u32]) -> bool
     layout::is_zero(&book[start..])
 }
 
-// Reduced keys are below this.
-const KEYS: u32 = 16777216;
-
-fn wide(x: u32) -> usize
-    ensures { λ r. ⌜ r ≡ x ⌝ }
-{
-    x as usize
-}
-
 // The kind that an operation is of, by its number.
 fn kind_of(number: u32) -> u32
     ensures { λ r. ⌜ r ≡ kindBy number ⌝ }
@@ -86,7 +85,7 @@ fn is_live(book: &[u32], live: u64, i: usize) -> bool
     ensures { λ r. ⌜ (r ≡ true) ↔ Live (decode base (now (book .entry))) (word (now (book .entry)) (entryStart i)) ⌝ }
 {
     let transaction = layout::entry_transaction(book, i);
-    if transaction >= 64 {
+    if wide(transaction) >= layout::TRANSACTIONS {
         return false;
     }
     bitset::contains(live, transaction)
@@ -94,19 +93,19 @@ fn is_live(book: &[u32], live: u64, i: usize) -> bool
 
 fn of_kind(book: &[u32], i: usize) -> bool
     requires { ⌜ Packed base (now book) × (i < word (now book) 0) ⌝ }
-    ensures { λ r. ⌜ (r ≡ true) ↔ (objectOf (decode base (now (book .entry))) (word (now (book .entry)) (entryStart i + 1)) .kind ≡ some (kindOf (operationAt (now (book .entry)) i))) ⌝ }
+    ensures { λ r. ⌜ (r ≡ true) ↔ (objectOf (decode base (now (book .entry))) (word (now (book .entry)) (entryStart i + 1)) .kind ≡ some (model.kindOf (operationAt (now (book .entry)) i))) ⌝ }
 {
-    let object = layout::entry_object(book, i);
-    if object >= 16 {
+    let object = wide(layout::entry_object(book, i));
+    if object >= layout::OBJECTS {
         return false;
     }
     let operation = layout::entry_operation(book, i);
-    layout::object_kind(book, wide(object)) == kind_of(operation.number)
+    layout::object_kind(book, object) == kind_of(operation.number)
 }
 
 fn is_reduced(book: &[u32], i: usize) -> bool
     requires { ⌜ Packed base (now book) × (i < word (now book) 0) ⌝ }
-    ensures { λ r. ⌜ (r ≡ true) ↔ StoredKey reduceKey (operationAt (now (book .entry)) i) ⌝ }
+    ensures { λ r. ⌜ (r ≡ true) ↔ model.StoredKey model.reduceKey (operationAt (now (book .entry)) i) ⌝ }
 {
     let operation = layout::entry_operation(book, i);
     kind_of(operation.number) == 1 || operation.key < KEYS
@@ -169,7 +168,7 @@ pub fn append(book: &mut [u32], transaction: u32, object: u32, operation: Operat
 }
 
 // The words of one entry, written over those of another.
-fn shift(book: &mut [u32], from: usize, to: usize)
+fn move_entry(book: &mut [u32], from: usize, to: usize)
     requires { ⌜ (length (now book) ≡ 3937) × (from < 256) × (to < 256) ⌝ }
     ensures { λ r. ⌜ now (book .exit) ≡ sets (now (book .entry)) (entryStart to) (wordsAt (now (book .entry)) from) ⌝ }
 {
@@ -183,13 +182,13 @@ fn shift(book: &mut [u32], from: usize, to: usize)
 // The entries of other transactions, moved to the front of the log, and their number.
 fn gather(book: &mut [u32], transaction: u32) -> usize
     requires { ⌜ Packed base (now book) ⌝ }
-    ensures { λ r. ⌜ (r ≤ word (now (book .entry)) 0) × (r ≡ length (remaining transaction (now (book .entry)))) × (now (book .exit) ≡ sets (now (book .entry)) 2145 (joined entryWords (remaining transaction (now (book .entry))))) ⌝ }
+    ensures { λ r. ⌜ Gathered (now (book .entry)) transaction (word (now (book .entry)) 0) (now (book .exit)) r ⌝ }
 {
     let count = layout::entry_count(book);
     let mut kept: usize = 0;
     for i in 0..count {
         if layout::entry_transaction(book, i) != transaction {
-            shift(book, i, kept);
+            move_entry(book, i, kept);
             kept += 1;
         }
     }

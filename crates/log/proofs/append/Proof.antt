@@ -2,7 +2,8 @@
 use native.Mathlib.Omega.{arith}
 use borrow.Author.Needs.{needs}
 use Rattle.log.specs.Log.{wordsOf}
-use Rattle.log.specs.Laws.Writing.{words-stored, count-kept, appended-words}
+use Rattle.log.specs.Laws.Gathering.{words-stored}
+use Rattle.log.specs.Laws.Writing.{count-kept, appended-words}
 use Rattle.log.proofs.append.Statement.{statement}
 use Rattle.log.proofs.append.Tie as tie
 

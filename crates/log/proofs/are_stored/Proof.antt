@@ -7,7 +7,8 @@ use borrow.Author.Count.{below-more}
 use borrow.Author.Needs.{needs}
 use borrow.Author.Tests.{not-true, not-false}
 use Rattle.store.specs.Layout.{AsStored}
-use Rattle.log.specs.Laws.Packing.{kept-read, each-refuted, each-shown}
+use Rattle.log.specs.Laws.Checks.{each-refuted, each-shown}
+use Rattle.log.specs.Laws.Packing.{kept-read}
 use Rattle.log.proofs.are_stored.Statement.{statement}
 use Rattle.log.proofs.are_stored.Tie as tie
 

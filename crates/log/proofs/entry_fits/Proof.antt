@@ -2,7 +2,7 @@
 use mathlib.Core.Path.{refl}
 use borrow.Author.Needs.{needs}
 use borrow.Author.Tests.{not-true, not-false}
-use Rattle.log.specs.Laws.Packing.{no, fails}
+use Rattle.log.specs.Laws.Checks.{no, fails}
 use Rattle.log.proofs.entry_fits.Statement.{statement}
 use Rattle.log.proofs.entry_fits.Tie as tie
 

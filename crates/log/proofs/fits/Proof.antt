@@ -1,12 +1,11 @@
 -- `log::fits`: the entries before i fit.
 use Prim.Native.Nat.{ℕ, _-_, _≤_, _<_}
-use mathlib.Core.Path.{_≡_}
 use mathlib.Core.Logic.{Iff·trans}
 use borrow.Author.Count.{below-none, below-more}
 use borrow.Author.Needs.{needs}
 use borrow.Author.Tests.{not-true, not-false}
 use Rattle.log.specs.Log.{EntryFits}
-use Rattle.log.specs.Laws.Packing.{each-refuted, each-shown}
+use Rattle.log.specs.Laws.Checks.{each-refuted, each-shown}
 use Rattle.log.specs.Laws.Fitting.{each-fits}
 use Rattle.log.proofs.fits.Statement.{statement}
 use Rattle.log.proofs.fits.Tie as tie

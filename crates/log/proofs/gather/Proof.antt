@@ -1,12 +1,12 @@
 -- `log::gather`: of the entries before i, those of other transactions stand at the front.
-use Prim.Native.Nat.{ℕ, _+_, _-_, _≤_, _<_}
-use mathlib.Core.Path.{_≡_, sym, _∙_, subst}
-use mathlib.Core.List.{List}
+use Prim.Native.Nat.{_+_, _-_, _≤_}
+use mathlib.Core.Path.{_≡_, subst}
 use mathlib.Core.Logic.{⊎-elim}
 use native.Mathlib.Omega.{arith}
 use borrow.Author.Needs.{needs}
-use lib.ListN.{length}
-use Rattle.log.specs.Laws.Writing.{Gathered, gathered-none, gathered-own, gathered-kept, gathered-all}
+use Rattle.store.specs.Layout.{word}
+use Rattle.log.specs.Log.{Gathered}
+use Rattle.log.specs.Laws.Gathering.{gathered-none, gathered-own, gathered-kept}
 use Rattle.log.proofs.gather.Statement.{statement}
 use Rattle.log.proofs.gather.Tie as tie
 
@@ -38,7 +38,9 @@ loop-again c = (omega arith, next c)
 returns : tie.Need-returns Inv-loop μ-loop
 returns c =
     let at-loop = c .before in
-    gathered-all _ _ _ _ _ _ (at-loop .before .entry-count .ensures) (at-loop .loop .inv .0) (c .loop-test .left) (at-loop .loop .inv .1)
+    let args = at-loop .before .before .before .before .args in
+    let e : at-loop .loop .i ≡ word (args .book .now) 0 = omega (arith, at-loop .before .entry-count .ensures) in
+    subst (λ i. Gathered (args .book .now) (args .transaction) i (at-loop .loop .book) (at-loop .loop .kept)) e (at-loop .loop .inv .1)
 
 pub gather-spec : {M : Type 1} → statement M
 gather-spec =

@@ -1,9 +1,9 @@
 -- What the tests of one entry say, and of all.
 use Prim.Native.Nat.{ℕ, zero, suc, _+_, _≤_, _<_}
 use mathlib.Core.Path.{_≡_, refl, sym, ap, _∙_}
-use mathlib.Core.Bool.{Bool, true, false, true≢false}
+use mathlib.Core.Bool.{Bool, true, false}
 use mathlib.Core.Logic.{_↔_, _⊎_, inl, inr, ⊎-elim}
-use mathlib.Core.Option.{Option, none, some, Option·none-ne-some}
+use mathlib.Core.Option.{some, Option·none-ne-some}
 use mathlib.Core.List.{List}
 use native.Mathlib.Omega.{arith}
 use borrow.Author.Tests.{eqb-true, eq-eqb, ltb-true, lt-ltb, le-ltb}
@@ -11,12 +11,12 @@ use lib.Dec.{eqb, ltb}
 use Rattle.bitset.specs.Bitset.{has}
 use Rattle.operations.specs.Operations.{Kind, Stack, Set, Table, push, pop, top, setInsert, setDelete, member, tableInsert, tableDelete, lookup, size, modify, Operation, onStack, onSet, onTable, kindOf, numberOf, keyOf, reduceKey, Reduced, StoredKey}
 use Rattle.store.specs.Store.{Object, Live, objectOf, Logged}
-use Rattle.store.specs.Layout.{base, decode, word, kindWord, readKind, readObject, objectStart, entryStart, entryAt, operationAt, Packed}
+use Rattle.store.specs.Layout.{base, decode, word, kindWord, readKind, objectStart, entryStart, entryAt, operationAt, Packed}
 use Rattle.store.specs.Soundness.{EntriesLive, EntriesFit, KeysReduced}
 use Rattle.store.specs.Laws.Lists.{all-each, all-of}
 use Rattle.store.specs.Laws.Reading.{live-below, object-read, kind-below}
 use Rattle.log.specs.Log.{kindBy, EntryFits}
-use Rattle.log.specs.Laws.Packing.{yes, no, Each}
+use Rattle.log.specs.Laws.Checks.{yes, no, Each}
 
 -- ---- Kinds
 

@@ -1,7 +1,7 @@
 -- What is stored for an operation, by its number; and ranges and zeros of the whole log.
 use Prim.Native.Nat.{ℕ, _+_, _-_, _≤_, _<_}
 use mathlib.Core.Path.{_≡_, refl, sym, ap, subst, _∙_}
-use mathlib.Core.Bool.{Bool, true, false, true≢false}
+use mathlib.Core.Bool.{Bool, true, false}
 use mathlib.Core.Logic.{_↔_, _⊎_, inl, inr}
 use mathlib.Core.Option.{none, some}
 use mathlib.Core.List.{List, _∷_, map}
@@ -11,23 +11,11 @@ use borrow.Author.Tests.{eqb-true, eq-eqb}
 use lib.Dec.{eqb}
 use lib.ListN.{length, take, drop, List·getD-eq-default}
 use lib.Seq.{getD-drop}
-use Rattle.operations.specs.Operations.{Operation, numbered, stored, numberOf}
+use Rattle.operations.specs.Operations.{numbered, stored, numberOf}
 use Rattle.operations.specs.Laws.Cases.{same}
 use Rattle.store.specs.Layout.{word, orPop, entryStart, AsStored}
 use Rattle.log.specs.Log.{LogPacked, Kept}
-
--- What a test says of a fact.
-pub yes : {P : Type 0} {b : Bool} → b ≡ true → P → (b ≡ true) ↔ P
-yes e p = (λ q. p, λ q. e)
-
-pub no : {P : Type 0} {b : Bool} → b ≡ false → (P → ⊥) → (b ≡ true) ↔ P
-no e refuted = (λ q. absurd (true≢false (sym q ∙ e)), λ p. absurd (refuted p))
-
-pub fails : {P : Type 0} {b : Bool} → b ≡ false → (b ≡ true) ↔ P → P → ⊥
-fails e h p = true≢false (sym (h .1 p) ∙ e)
-
-zero-test : {P : Type 0} (x : ℕ) → (x ≡ 0) ↔ P → (eqb x 0 ≡ true) ↔ P
-zero-test x p = (λ e. p .0 (eqb-true x 0 e), λ q. eq-eqb x 0 (p .1 q))
+use Rattle.log.specs.Laws.Checks.{no, fails, Each}
 
 -- ---- One operation
 
@@ -37,6 +25,9 @@ Bare n = (n ≡ 10) ⊎ ((1 ≤ n) × (n < 4) × (n ≡ 1 → ⊥))
 
 abbrev pub KeyAlone : ℕ → Type 0
 KeyAlone n = (n ≡ 1) ⊎ ((4 ≤ n) × (n < 10) × (n ≡ 7 → ⊥))
+
+zero-test : {P : Type 0} (x : ℕ) → (x ≡ 0) ↔ P → (eqb x 0 ≡ true) ↔ P
+zero-test x p = (λ e. p .0 (eqb-true x 0 e), λ q. eq-eqb x 0 (p .1 q))
 
 module _ (n k v : ℕ) where
   at : (P : Type 0) (m : ℕ) → n ≡ m → P ↔ Kept m k v → P ↔ Kept n k v
@@ -89,23 +80,11 @@ module _ (n k v : ℕ) where
   pub bare-keyed : Bare n → (k ≡ 0 → ⊥) → (eqb k 0 ≡ true) ↔ Kept n k v
   bare-keyed u other = zero-test k (λ z. absurd (other z), λ h. kept-bare u .1 h .0)
 
--- ---- All entries
-
 -- An operation that was read from the words of entry i.
 pub kept-read : (B : Type 0) (w : List ℕ) (i n k v : ℕ) → B ↔ Kept n k v
     → (n ≡ word w (entryStart i + 2)) × (k ≡ word w (entryStart i + 3)) × (v ≡ word w (entryStart i + 4))
     → B ↔ AsStored w i
 kept-read B w i n k v h (en, ek, ev) = rw (en, ek, ev) at h
-
-module _ (P : ℕ → Type 0) (n : ℕ) where
-  abbrev pub Each : Type 0
-  Each = (i : ℕ) → i < n → P i
-
-  pub each-refuted : (i : ℕ) (b : Bool) → i < n → b ≡ false → (b ≡ true) ↔ P i → (false ≡ true) ↔ Each
-  each-refuted i b l e h = no refl (λ each. fails e h (each i l))
-
-  pub each-shown : (i : ℕ) → n ≤ i → ((k : ℕ) → k < i → P k) → (true ≡ true) ↔ Each
-  each-shown i l h = yes refl (λ k m. h k (omega arith))
 
 -- ---- The whole log
 

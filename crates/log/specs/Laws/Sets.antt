@@ -3,7 +3,7 @@ use Prim.Native.Nat.{ℕ, suc, _+_, _-_, _≤_, _<_}
 use mathlib.Core.Path.{_≡_, refl, sym, ap, ap₂, _∙_}
 use mathlib.Core.List.{List, [], _∷_, _++_, append-assoc}
 use native.Mathlib.Omega.{arith}
-use lib.ListN.{length, getD, set, drop, replicate, length-append, length-replicate, replicate-append-replicate}
+use lib.ListN.{length, set, replicate, length-append, length-replicate, replicate-append-replicate}
 use lib.Seq.{sets, sets-eq, getD-set-other, take-append-seam, drop-append-add, drop-at}
 use Rattle.store.specs.Layout.{word, padded}
 
@@ -69,6 +69,12 @@ sets-seven l s a b c d e f g =
 
 -- ---- Words that zeros fill up
 
+-- Filled up to n first.
+padded-from : (size : ℕ) (ws : List ℕ) (n : ℕ) → length ws ≤ n → n ≤ size → (ws ++ zeros (n - length ws)) ++ zeros (size - n) ≡ padded size ws
+padded-from size ws n h m =
+    let more : (n - length ws) + (size - n) ≡ size - length ws = omega arith in
+    rw (append-assoc, replicate-append-replicate, more)
+
 module _ (size : ℕ) (p j ws : List ℕ) where
   -- More of them.
   pub padded-more : length j + length ws ≤ size → sets (p ++ padded size j) (length p + length j) ws ≡ p ++ padded size (j ++ ws)
@@ -89,12 +95,5 @@ module _ (size : ℕ) (p j ws : List ℕ) where
   -- Others in their place, no more than they, with zeros for those left over.
   pub padded-over : length ws ≤ length j → length j ≤ size → sets (p ++ padded size j) (length p) (ws ++ zeros (length j - length ws)) ≡ p ++ padded size ws
   padded-over h m =
-      let freed = zeros (length j - length ws) in
-      let rest = zeros (size - length j) in
-      let many : length j ≡ length (ws ++ freed) = simp (length-append, length-replicate) (omega arith) in
-      let more : (length j - length ws) + (size - length j) ≡ size - length ws = omega arith in
-      let together : freed ++ rest ≡ zeros (size - length ws) =
-      replicate-append-replicate (length j - length ws) (size - length j) 0 ∙ ap zeros more
-      in
-      sets-seam p j (ws ++ freed) rest many
-      ∙ ap (λ (l : List ℕ). p ++ l) (append-assoc ws freed rest ∙ ap (λ (z : List ℕ). ws ++ z) together)
+      let many : length j ≡ length (ws ++ zeros (length j - length ws)) = simp (length-append, length-replicate) (omega arith) in
+      sets-seam p j (ws ++ zeros (length j - length ws)) (zeros (size - length j)) many ∙ ap (λ (l : List ℕ). p ++ l) (padded-from size ws (length j) h m)

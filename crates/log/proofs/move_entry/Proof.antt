@@ -1,11 +1,9 @@
--- `log::shift`: what was read is what is put.
-use mathlib.Core.Path.{ap, _∙_}
+-- `log::move_entry`: what was read is what is put.
 use borrow.Author.Needs.{needs}
-use lib.Seq.{sets}
 use Rattle.store.specs.Layout.{entryStart}
-use Rattle.log.specs.Laws.Writing.{words-read}
-use Rattle.log.proofs.shift.Statement.{statement}
-use Rattle.log.proofs.shift.Tie as tie
+use Rattle.log.specs.Laws.Gathering.{words-moved}
+use Rattle.log.proofs.move_entry.Statement.{statement}
+use Rattle.log.proofs.move_entry.Tie as tie
 
 returns : tie.Need-returns
 returns c =
@@ -15,12 +13,11 @@ returns c =
     let object = operation .before .before in
     let transaction = object .before .before in
     let args = transaction .before .before .before .args in
-    put .put .ensures
-    ∙ ap (sets (args .book .now) (entryStart (args .to)))
-    (words-read (args .book .now) (args .from) _ _ _ _ (transaction .entry-transaction .ensures) (object .entry-object .ensures) (operation .entry-operation .ensures) (answer .entry-answer .ensures))
+    words-moved (args .book .now) _ (args .from) (entryStart (args .to)) _ _ _ _ (transaction .entry-transaction .ensures) (object .entry-object .ensures)
+    (operation .entry-operation .ensures) (answer .entry-answer .ensures) (put .put .ensures)
 
-pub shift-spec : {M : Type 1} → statement M
-shift-spec =
+pub move-entry-spec : {M : Type 1} → statement M
+move-entry-spec =
     tie.close
     (tie.spec
     (λ c κs. search needs)
