@@ -15,7 +15,7 @@ ghost use Rattle.store.specs.Store.{Live, objectOf};
 ghost use Rattle.store.specs.Layout.{Packed, base, encode, decode, word, entryStart, operationAt, AsStored};
 ghost use Rattle.store.specs.Steps.{appended, dropped};
 ghost use Rattle.store.specs.Soundness.{EntriesLive, EntriesFit, KeysReduced};
-ghost use Rattle.log.specs.Log.{LogPacked, Kept, kindBy, EntryFits, StoredAs, logged, wordsOf, wordsAt, Gathered};
+ghost use Rattle.log.specs.Log.{LogPacked, StoredWords, kindBy, LiveSet, EntryFits, StoredAs, logged, wordsOf, wordsAt, Gathered};
 
 // Reduced keys are below this.
 const KEYS: u32 = 16_777_216;
@@ -28,7 +28,7 @@ fn wide(x: u32) -> usize
 
 // Whether the words are those that are stored for an operation: its number is in range, and an argument that it does not use is 0.
 fn is_stored(operation: Operation) -> bool
-    ensures { λ r. ⌜ (r ≡ true) ↔ Kept (operation .number) (operation .key) (operation .value) ⌝ }
+    ensures { λ r. ⌜ (r ≡ true) ↔ StoredWords (operation .number) (operation .key) (operation .value) ⌝ }
 {
     let number = operation.number;
     match number {
@@ -81,7 +81,7 @@ fn kind_of(number: u32) -> u32
 }
 
 fn is_live(book: &[u32], live: u64, i: usize) -> bool
-    requires { ⌜ (length (now book) ≡ 3937) × (i < 256) × ((t : ℕ) → (has live t ≡ true) ↔ Live (decode base (now book)) t) ⌝ }
+    requires { ⌜ (length (now book) ≡ 3937) × (i < 256) × LiveSet live (now book) ⌝ }
     ensures { λ r. ⌜ (r ≡ true) ↔ Live (decode base (now (book .entry))) (word (now (book .entry)) (entryStart i)) ⌝ }
 {
     let transaction = layout::entry_transaction(book, i);
@@ -112,7 +112,7 @@ fn is_reduced(book: &[u32], i: usize) -> bool
 }
 
 fn entry_fits(book: &[u32], live: u64, i: usize) -> bool
-    requires { ⌜ Packed base (now book) × (i < word (now book) 0) × ((t : ℕ) → (has live t ≡ true) ↔ Live (decode base (now book)) t) ⌝ }
+    requires { ⌜ Packed base (now book) × (i < word (now book) 0) × LiveSet live (now book) ⌝ }
     ensures { λ r. ⌜ (r ≡ true) ↔ EntryFits (now (book .entry)) i ⌝ }
 {
     if !is_live(book, live, i) {

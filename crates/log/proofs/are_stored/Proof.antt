@@ -8,7 +8,7 @@ use borrow.Author.Needs.{needs}
 use borrow.Author.Tests.{not-true, not-false}
 use Rattle.store.specs.Layout.{AsStored}
 use Rattle.log.specs.Laws.Checks.{each-refuted, each-shown}
-use Rattle.log.specs.Laws.Packing.{kept-read}
+use Rattle.log.specs.Laws.Packing.{stored-read}
 use Rattle.log.proofs.are_stored.Statement.{statement}
 use Rattle.log.proofs.are_stored.Tie as tie
 
@@ -21,7 +21,7 @@ abbrev μ-loop : tie.MeasureT-loop
 tested : (c : tie.After-is-stored Inv-loop μ-loop) → (c .is-stored .result ≡ true) ↔ AsStored (c .before .before .before .before .before .args .book .now) (c .before .before .before .loop .i)
 tested c =
     let at-loop = c .before .before .before in
-    kept-read _ (at-loop .before .before .args .book .now) (at-loop .loop .i) _ _ _ (c .is-stored .ensures) (c .before .entry-operation .ensures)
+    stored-read _ (at-loop .before .before .args .book .now) (at-loop .loop .i) _ _ _ (c .is-stored .ensures) (c .before .entry-operation .ensures)
 
 returns : tie.Need-returns Inv-loop μ-loop
 returns c = each-refuted _ _ _ _ (c .before .before .before .loop-test .taken) (not-true _ (c .if1 .taken)) (tested (c .before))

@@ -2,20 +2,20 @@
 use mathlib.Core.Path.{refl}
 use mathlib.Core.Logic.{inl, inr, ⊎-elim}
 use Rattle.log.specs.Laws.Checks.{yes, no}
-use Rattle.log.specs.Laws.Packing.{Bare, KeyAlone, kept-both, kept-below, kept-above, keyed-test, bare-test, bare-keyed}
+use Rattle.log.specs.Laws.Packing.{Bare, KeyAlone, stored-both, stored-below, stored-above, keyed-test, bare-test, bare-keyed}
 use Rattle.log.proofs.is_stored.Statement.{statement}
 use Rattle.log.proofs.is_stored.Tie as tie
 
 returns : tie.Need-returns
-returns c = yes refl (kept-both _ _ _ (c .match .keys3))
+returns c = yes refl (stored-both _ _ _ (c .match .keys3))
 
 returns-2 : tie.Need-returns-2
-returns-2 c = no refl (kept-below _ _ _ (c .if1 .taken))
+returns-2 c = no refl (stored-below _ _ _ (c .if1 .taken))
 
 returns-3 : tie.Need-returns-3
 returns-3 c =
     let rest = c .before .before .before .match .rest in
-    no refl (kept-above _ _ _ (c .if3 .left) (rest .0 .1) (λ e. rest .1 (inr e)))
+    no refl (stored-above _ _ _ (c .if3 .left) (rest .0 .1) (λ e. rest .1 (inr e)))
 
 is-bare : (c : tie.At-match-came) → Bare (c .before .args .operation .number)
 is-bare c = ⊎-elim (λ w. inl (w .keys2)) (λ w. inr (w .1 .left, w .2 .taken, w .0 .rest .0 .0 .1)) (c .match .came)

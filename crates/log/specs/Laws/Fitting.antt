@@ -15,7 +15,7 @@ use Rattle.store.specs.Layout.{base, decode, word, kindWord, readKind, objectSt
 use Rattle.store.specs.Soundness.{EntriesLive, EntriesFit, KeysReduced}
 use Rattle.store.specs.Laws.Lists.{all-each, all-of}
 use Rattle.store.specs.Laws.Reading.{live-below, object-read, kind-below}
-use Rattle.log.specs.Log.{kindBy, EntryFits}
+use Rattle.log.specs.Log.{kindBy, LiveSet, EntryFits}
 use Rattle.log.specs.Laws.Checks.{yes, no, Each}
 
 -- ---- Kinds
@@ -88,7 +88,7 @@ module _ (w : List ℕ) (i : ℕ) where
   pub live-past : (t : ℕ) → t ≡ word w (entryStart i) → 64 ≤ t → (false ≡ true) ↔ EntryLive
   live-past t e l = no refl (λ live. omega (arith, live-below base w (word w (entryStart i)) live))
 
-  pub live-tested : (live t : ℕ) (b : Bool) → t ≡ word w (entryStart i) → ((u : ℕ) → (has live u ≡ true) ↔ Live (decode base w) u) → b ≡ has live t
+  pub live-tested : (live t : ℕ) (b : Bool) → t ≡ word w (entryStart i) → LiveSet live w → b ≡ has live t
       → (b ≡ true) ↔ EntryLive
   live-tested live t b e lives r = rw (r, ← e) (lives t)
 

@@ -14,7 +14,7 @@ use lib.Seq.{getD-drop}
 use Rattle.operations.specs.Operations.{numbered, stored, numberOf}
 use Rattle.operations.specs.Laws.Cases.{same}
 use Rattle.store.specs.Layout.{word, orPop, entryStart, AsStored}
-use Rattle.log.specs.Log.{LogPacked, Kept}
+use Rattle.log.specs.Log.{LogPacked, StoredWords}
 use Rattle.log.specs.Laws.Checks.{no, fails, Each}
 
 -- ---- One operation
@@ -30,8 +30,8 @@ zero-test : {P : Type 0} (x : ℕ) → (x ≡ 0) ↔ P → (eqb x 0 ≡ true) �
 zero-test x p = (λ e. p .0 (eqb-true x 0 e), λ q. eq-eqb x 0 (p .1 q))
 
 module _ (n k v : ℕ) where
-  at : (P : Type 0) (m : ℕ) → n ≡ m → P ↔ Kept m k v → P ↔ Kept n k v
-  at P m e h = subst (λ (j : ℕ). P ↔ Kept j k v) (sym e) h
+  at : (P : Type 0) (m : ℕ) → n ≡ m → P ↔ StoredWords m k v → P ↔ StoredWords n k v
+  at P m e h = subst (λ (j : ℕ). P ↔ StoredWords j k v) (sym e) h
 
   -- Without arguments and with a key alone: what is kept, as it computes at a number m.
   bare : (m : ℕ) → ((k ≡ 0) × (v ≡ 0)) ↔ ((m ≡ m) × (0 ≡ k) × (0 ≡ v))
@@ -40,51 +40,51 @@ module _ (n k v : ℕ) where
   keyed : (m : ℕ) → (v ≡ 0) ↔ ((m ≡ m) × (k ≡ k) × (0 ≡ v))
   keyed m = (λ z. (refl, refl, sym z), λ h. sym (h .2))
 
-  kept-bare : Bare n → ((k ≡ 0) × (v ≡ 0)) ↔ Kept n k v
-  kept-bare (inl e) = at _ 10 e (bare 10)
-  kept-bare (inr (l, m, n1)) = same n 2 (λ e. at _ 2 e (bare 2)) (λ n2. at _ 3 (omega arith) (bare 3))
+  stored-bare : Bare n → ((k ≡ 0) × (v ≡ 0)) ↔ StoredWords n k v
+  stored-bare (inl e) = at _ 10 e (bare 10)
+  stored-bare (inr (l, m, n1)) = same n 2 (λ e. at _ 2 e (bare 2)) (λ n2. at _ 3 (omega arith) (bare 3))
 
-  kept-keyed : KeyAlone n → (v ≡ 0) ↔ Kept n k v
-  kept-keyed (inl e) = at _ 1 e (keyed 1)
-  kept-keyed (inr (l, m, n7)) =
+  stored-keyed : KeyAlone n → (v ≡ 0) ↔ StoredWords n k v
+  stored-keyed (inl e) = at _ 1 e (keyed 1)
+  stored-keyed (inr (l, m, n7)) =
       same n 4 (λ e. at _ 4 e (keyed 4))
       (λ n4. same n 5 (λ e. at _ 5 e (keyed 5))
       (λ n5. same n 6 (λ e. at _ 6 e (keyed 6))
       (λ n6. same n 8 (λ e. at _ 8 e (keyed 8))
       (λ n8. at _ 9 (omega arith) (keyed 9)))))
 
-  pub kept-both : (n ≡ 7) ⊎ (n ≡ 11) → Kept n k v
-  kept-both (inl e) = subst (λ (j : ℕ). Kept j k v) (sym e) (refl, refl, refl)
-  kept-both (inr e) = subst (λ (j : ℕ). Kept j k v) (sym e) (refl, refl, refl)
+  pub stored-both : (n ≡ 7) ⊎ (n ≡ 11) → StoredWords n k v
+  stored-both (inl e) = subst (λ (j : ℕ). StoredWords j k v) (sym e) (refl, refl, refl)
+  stored-both (inr e) = subst (λ (j : ℕ). StoredWords j k v) (sym e) (refl, refl, refl)
 
-  unnamed : stored (λ k. k) n k v ≡ none → (n ≡ 2 → ⊥) → Kept n k v → ⊥
+  unnamed : stored (λ k. k) n k v ≡ none → (n ≡ 2 → ⊥) → StoredWords n k v → ⊥
   unnamed e other h = other (sym (h .0) ∙ ap (λ q. numberOf (orPop q)) e)
 
-  pub kept-below : n < 1 → Kept n k v → ⊥
-  kept-below l =
+  pub stored-below : n < 1 → StoredWords n k v → ⊥
+  stored-below l =
       let e : n ≡ 0 = omega arith in
       unnamed (ap (λ m. stored (λ k. k) m k v) e) (λ two. omega arith)
 
-  pub kept-above : 10 ≤ n → (n ≡ 10 → ⊥) → (n ≡ 11 → ⊥) → Kept n k v → ⊥
-  kept-above l n10 n11 =
+  pub stored-above : 10 ≤ n → (n ≡ 10 → ⊥) → (n ≡ 11 → ⊥) → StoredWords n k v → ⊥
+  stored-above l n10 n11 =
       let past : 12 ≤ n = omega arith in
       unnamed (List·getD-eq-default (none ∷ map some (numbered (λ k. k) k v)) none past) (λ two. omega arith)
 
   -- As the code's tests tell it.
-  pub keyed-test : KeyAlone n → (eqb v 0 ≡ true) ↔ Kept n k v
-  keyed-test u = zero-test v (kept-keyed u)
+  pub keyed-test : KeyAlone n → (eqb v 0 ≡ true) ↔ StoredWords n k v
+  keyed-test u = zero-test v (stored-keyed u)
 
-  pub bare-test : Bare n → k ≡ 0 → (eqb v 0 ≡ true) ↔ Kept n k v
-  bare-test u e = zero-test v (λ z. kept-bare u .0 (e, z), λ h. kept-bare u .1 h .1)
+  pub bare-test : Bare n → k ≡ 0 → (eqb v 0 ≡ true) ↔ StoredWords n k v
+  bare-test u e = zero-test v (λ z. stored-bare u .0 (e, z), λ h. stored-bare u .1 h .1)
 
-  pub bare-keyed : Bare n → (k ≡ 0 → ⊥) → (eqb k 0 ≡ true) ↔ Kept n k v
-  bare-keyed u other = zero-test k (λ z. absurd (other z), λ h. kept-bare u .1 h .0)
+  pub bare-keyed : Bare n → (k ≡ 0 → ⊥) → (eqb k 0 ≡ true) ↔ StoredWords n k v
+  bare-keyed u other = zero-test k (λ z. absurd (other z), λ h. stored-bare u .1 h .0)
 
 -- An operation that was read from the words of entry i.
-pub kept-read : (B : Type 0) (w : List ℕ) (i n k v : ℕ) → B ↔ Kept n k v
+pub stored-read : (B : Type 0) (w : List ℕ) (i n k v : ℕ) → B ↔ StoredWords n k v
     → (n ≡ word w (entryStart i + 2)) × (k ≡ word w (entryStart i + 3)) × (v ≡ word w (entryStart i + 4))
     → B ↔ AsStored w i
-kept-read B w i n k v h (en, ek, ev) = rw (en, ek, ev) at h
+stored-read B w i n k v h (en, ek, ev) = rw (en, ek, ev) at h
 
 -- ---- The whole log
 
