@@ -1,5 +1,5 @@
 -- A book of zeros is that of an empty store, which is sound.
-use Prim.Native.Nat.{ℕ, _+_, _≤_, _<_}
+use Prim.Native.Nat.{ℕ, _+_, _<_}
 use mathlib.Core.Path.{_≡_, sym, ap, ap₂, _∙_, subst}
 use mathlib.Core.Option.{Option·none-ne-some}
 use mathlib.Core.List.{List, []}
@@ -8,7 +8,7 @@ use native.Mathlib.Omega.{arith}
 use lib.ListN.{length}
 use Rattle.operations.specs.Operations.{Kind, All}
 use Rattle.store.specs.Store.{pseudoCommitted, absent, Object, noObject, Logged, Store, statusOf, objectOf, onObject}
-use Rattle.store.specs.Layout.{Format, word, tabulate, readKind, readStatus, statusWord, statusAt, entryAt, objectStart, rowAt, rowsAt, readObject, ObjectPacked, additions, decode, Packed, base}
+use Rattle.store.specs.Layout.{Format, word, tabulate, readKind, readStatus, statusWord, entryAt, objectStart, rowAt, rowsAt, readObject, ObjectPacked, additions, decode, Packed, base}
 use Rattle.store.specs.Soundness.{OfKind, Room, SoundStore, Sound}
 use Rattle.store.specs.Laws.Lists.{tabulate-zero}
 use Rattle.store.specs.Laws.Reading.{status-read, status-past, object-read, object-past}
@@ -47,7 +47,7 @@ module _ (s : Store) (empty : Empty s) where
       }
 
 module _ (w : List ℕ) (zeros : (i : ℕ) → word w i ≡ 0) where
-  zeros-empty : (format : Format) → ((o : ℕ) → o < 16 → format .objectAt w o ≡ noObject) → Empty (decode format w)
+  pub zeros-empty : (format : Format) → ((o : ℕ) → o < 16 → format .objectAt w o ≡ noObject) → Empty (decode format w)
   zeros-empty format absence =
       record {
         log = ap (λ (n : ℕ). tabulate n (entryAt w)) (zeros 0) ∙ tabulate-zero (entryAt w);
@@ -55,7 +55,7 @@ module _ (w : List ℕ) (zeros : (i : ℕ) → word w i ≡ 0) where
         objects = λ o. below o 16 (λ l. object-read format w o l ∙ absence o l) (object-past format w o);
       }
 
-  zeros-packed : (format : Format) → length w ≡ 3_937 → format .ObjectsPacked w → Packed format w
+  pub zeros-packed : (format : Format) → length w ≡ 3_937 → format .ObjectsPacked w → Packed format w
   zeros-packed format size objects =
       record {
         words = size;

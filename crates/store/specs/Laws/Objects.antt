@@ -1,8 +1,8 @@
 -- How objects stand in the base's book: 130 words each, kind, number of rows and 64 rows.
 use Prim.Native.Nat.{ℕ, zero, suc, _+_, _*_, _≤_, _<_}
 use mathlib.Core.Path.{_≡_, refl, sym, ap, ap₂, _∙_}
-use mathlib.Core.Option.{Option, none, some, Option·none-ne-some}
-use mathlib.Core.List.{List, [], _∷_}
+use mathlib.Core.Option.{Option, none, some}
+use mathlib.Core.List.{List}
 use native.Mathlib.Omega.{arith}
 use lib.ListN.{length, getD}
 use Rattle.operations.specs.Operations.{Kind, Stack, Set, Table, Row, row, All}
@@ -13,8 +13,11 @@ use Rattle.store.specs.Laws.Lists.{tabulate-zero, length-tabulate, all-o
 use Rattle.store.specs.Laws.Words.{each, Rows, all-any, all-getD, tabulate-list, padded-length, padded-past, padded-row, joined-length, joined-word, joined-same, padded-same}
 use Rattle.store.specs.Laws.Encoding.{Holds, ObjectsLaid}
 
+rows-rows : (rs : List Row) → Rows rowWords 2 rs
+rows-rows rs = all-any (λ (r : Row). length (rowWords r) ≡ 2) (λ r. refl) rs
+
 rows-length : (rs : List Row) → length (joined rowWords rs) ≡ 2 * length rs
-rows-length rs = joined-length rowWords 2 rs (all-any (λ (r : Row). length (rowWords r) ≡ 2) (λ r. refl) rs)
+rows-length rs = joined-length rowWords 2 rs (rows-rows rs)
 
 object-length : (x : Object) → ObjectFits x → length (objectWords x) ≡ 130
 object-length x fits = omega (arith, padded-length 128 (joined rowWords (x .rows)) (omega (arith, rows-length (x .rows), fits .rows)))
@@ -42,8 +45,8 @@ module _ (w : List ℕ) (o : ℕ) (packed : ObjectPacked w o) where
       record {
         rows = omega (arith, length-tabulate (word w (objectStart o + 1)) (rowAt w o), packed .rows);
         none = λ (e : readKind (word w (objectStart o)) ≡ none).
-            let zero : word w (objectStart o) ≡ 0 = sym (kind-written (word w (objectStart o)) (packed .kind)) ∙ ap kindWord e in
-            ap (λ (n : ℕ). tabulate n (rowAt w o)) (packed .none zero) ∙ tabulate-zero (rowAt w o);
+            let no-kind : word w (objectStart o) ≡ 0 = sym (kind-written (word w (objectStart o)) (packed .kind)) ∙ ap kindWord e in
+            ap (λ (n : ℕ). tabulate n (rowAt w o)) (packed .none no-kind) ∙ tabulate-zero (rowAt w o);
       }
 
 -- ---- Written and read
@@ -60,23 +63,23 @@ kind-below (some Stack) = omega arith
 kind-below (some Set) = omega arith
 kind-below (some Table) = omega arith
 
-module _ (w : List ℕ) (o : ℕ) (x : Object) (fits : ObjectFits x) (h : (j : ℕ) → j < 130 → word w (65 + (130 * o + j)) ≡ word (objectWords x) j) where
+module _ (w : List ℕ) (o : ℕ) (x : Object) (fits : ObjectFits x) (holds : (j : ℕ) → j < 130 → word w (65 + (130 * o + j)) ≡ word (objectWords x) j) where
   kind-word : word w (objectStart o) ≡ kindWord (x .kind)
-  kind-word = ap (word w) (omega arith) ∙ h 0 (omega arith)
+  kind-word = ap (word w) (omega arith) ∙ holds 0 (omega arith)
 
   count-word : word w (objectStart o + 1) ≡ length (x .rows)
-  count-word = ap (word w) (omega arith) ∙ h 1 (omega arith)
+  count-word = ap (word w) (omega arith) ∙ holds 1 (omega arith)
 
   rows-word : (p : ℕ) → p < 128 → word w (objectStart o + 2 + p) ≡ word (padded 128 (joined rowWords (x .rows))) p
   rows-word p l =
       let e : 2 + p ≡ suc (suc p) = omega arith in
-      ap (word w) (omega arith) ∙ h (2 + p) (omega arith) ∙ ap (word (objectWords x)) e
+      ap (word w) (omega arith) ∙ holds (2 + p) (omega arith) ∙ ap (word (objectWords x)) e
 
   row-read : (i : ℕ) → i < length (x .rows) → rowAt w o i ≡ getD (x .rows) i (row 0 0)
   row-read i l =
       let at : (j : ℕ) → j < 2 → word w (objectStart o + 2 + (2 * i + j)) ≡ word (rowWords (getD (x .rows) i (row 0 0))) j =
       λ j m. rows-word (2 * i + j) (omega (arith, fits .rows))
-      ∙ padded-row rowWords 2 128 (x .rows) (all-any (λ (r : Row). length (rowWords r) ≡ 2) (λ r. refl) (x .rows)) (row 0 0) i j l m in
+      ∙ padded-row rowWords 2 128 (x .rows) (rows-rows (x .rows)) (row 0 0) i j l m in
       ap₂ row (ap (word w) (omega arith) ∙ at 0 (omega arith)) (ap (word w) (omega arith) ∙ at 1 (omega arith))
 
   object-read : readObject w o ≡ x
