@@ -1,7 +1,7 @@
 -- A set of transactions, numbered from 0, as the binary digits of a number.
-use Prim.Native.Nat.{ℕ, _/_, _%_, _^_}
+use Prim.Native.Nat.{ℕ, _<_, _/_, _%_, _^_}
 use mathlib.Core.Path.{_≡_}
-use mathlib.Core.Bool.{Bool}
+use mathlib.Core.Bool.{Bool, true, false}
 use lib.Dec.{eqb}
 
 -- Transaction h is a member of the set s where bit h of s is 1.
@@ -11,3 +11,9 @@ has s h = eqb (s / 2 ^ h % 2) 1
 -- The set s has exactly the members that f tells.
 abbrev pub Members : ℕ → (ℕ → Bool) → Type 0
 Members s f = (h : ℕ) → has s h ≡ f h
+
+-- Transaction h is the lowest member of the set s.
+pub record Lowest (s h : ℕ) : Type 0 where
+  pub below : h < 64
+  pub member : has s h ≡ true
+  pub least : (k : ℕ) → k < h → has s k ≡ false

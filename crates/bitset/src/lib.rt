@@ -1,9 +1,9 @@
 // Sets of 64 transactions (document 01: "a set of 64 bits" of handouts).
 ghost use mathlib.Core.Path.{_≡_};
-ghost use mathlib.Core.Bool.{_&&_, _||_};
+ghost use mathlib.Core.Bool.{_&&_, _||_, not};
 ghost use Prim.Native.Nat.{_<_};
 ghost use lib.Dec.{eqb};
-ghost use Rattle.bitset.specs.Bitset.{has, Members};
+ghost use Rattle.bitset.specs.Bitset.{has, Members, Lowest};
 
 // The set of one transaction.
 pub fn single(transaction: u32) -> u64
@@ -33,4 +33,20 @@ pub fn contains(set: u64, transaction: u32) -> bool
     ensures { λ r. ⌜ r ≡ has set transaction ⌝ }
 {
     (set >> transaction) & 1 == 1
+}
+
+// The set without one transaction.
+pub fn without(set: u64, transaction: u32) -> u64
+    requires { ⌜ transaction < 64 ⌝ }
+    ensures { λ r. ⌜ Members r (λ h. has set h && not (eqb h transaction)) ⌝ }
+{
+    set & !single(transaction)
+}
+
+// The lowest member of a set that has one.
+pub fn lowest(set: u64) -> u32
+    requires { ⌜ (set ≡ 0 → ⊥) ⌝ }
+    ensures { λ r. ⌜ Lowest set r ⌝ }
+{
+    u64::trailing_zeros(set)
 }

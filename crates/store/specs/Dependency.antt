@@ -38,6 +38,7 @@ module _ (Edge : ℕ → ℕ → Type 0) (Through : ℕ → Type 0) where
   abbrev pub Path : ℕ → ℕ → Type 0
   Path a b = (n : ℕ) × Way n a b
 
--- The transaction lies on a cycle whose other members are all pseudo-committed (finished).
+-- The transaction lies on a cycle whose other members are all pseudo-committed (finished). There are 64 transactions, so 64 steps lead round
+-- any cycle.
 abbrev pub OnCycle : Store → ℕ → Type 0
 OnCycle s t = Way (DependsOn (s .log)) (PseudoCommitted s) 64 t t

@@ -1,6 +1,8 @@
 pub mod Lists
 pub mod Reading
+pub mod Dependencies
 pub mod Words
 pub mod Encoding
 pub mod Objects
 pub mod Empty
+pub mod Ways

@@ -42,6 +42,7 @@ pub record Format : Type 1 where
   -- the capacity rule: what counts towards the limit for an object, and the limit
   pub used : Store → ℕ → ℕ
   pub limit : ℕ
+  -- the key reduction
   pub reduce : ℕ → ℕ
 
 -- ---- Encoding
@@ -83,7 +84,7 @@ readStatus (suc (suc rank)) = pseudoCommitted rank
 abbrev pub readKind : ℕ → Option Kind
 readKind n = getD (none ∷ some Stack ∷ some Set ∷ some Table ∷ []) n none
 
--- A number that names no operation is out of range, and read as some operation.
+-- A number that names no operation is out of range, and read as pop.
 abbrev pub orPop : Option Operation → Operation
 orPop none = onStack pop
 orPop (some o) = o
@@ -127,7 +128,7 @@ pub record Packed (format : Format) (w : List ℕ) : Type 0 where
   pub asStored : (i : ℕ) → i < word w 0 → AsStored w i
   pub unused : (i : ℕ) → entryStart (word w 0) ≤ i → word w i ≡ 0
 
--- A store that a book can hold.
+-- A store that fits into a book, the size of its numbers apart.
 pub record Representable (format : Format) (s : Store) : Type 0 where
   pub statuses : length (s .statuses) ≡ 64
   pub objects : length (s .objects) ≡ 16

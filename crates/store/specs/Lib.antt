@@ -5,3 +5,4 @@ pub mod Soundness
 pub mod Steps
 pub mod Laws
 pub mod Theorems
+pub mod CycleTheorems

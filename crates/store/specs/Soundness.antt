@@ -10,7 +10,7 @@ use Rattle.store.specs.Store.{pseudoCommitted, Logged, Store, statusOf, 
 use Rattle.store.specs.Dependency.{DependsOn, OnCycle}
 use Rattle.store.specs.Layout.{Format, decode, Packed}
 
--- An object of a kind, and what then holds of it.
+-- Such it is with each object that has a kind.
 abbrev pub OfKind : (ℕ → Kind → Type 0) → Store → Type 0
 OfKind P s = (o : ℕ) (kind : Kind) → objectOf s o .kind ≡ some kind → P o kind
 
@@ -48,7 +48,7 @@ module _ (s : Store) where
   abbrev pub OnceEach : Type 0
   OnceEach = (t u rank : ℕ) → statusOf s t ≡ pseudoCommitted rank → statusOf s u ≡ pseudoCommitted rank → t ≡ u
 
-  -- and below each rank that is given all lower ones are: ranks are 0, 1, 2 and on.
+  -- and every number below a rank is a rank too: ranks are 0, 1, 2 and on.
   abbrev pub WithoutGaps : Type 0
   WithoutGaps = (t rank lower : ℕ) → statusOf s t ≡ pseudoCommitted rank → lower < rank → (u : ℕ) × (statusOf s u ≡ pseudoCommitted lower)
 
@@ -74,7 +74,8 @@ module _ (format : Format) where
     pub acyclic : Acyclic s
     pub dependent : Dependent s
 
-  -- Length, ranges and zeros are said of the words, the rest of what they are read as.
+  -- The length, ranges and zeros are said of the words, the rest of the store that they are read as. A transaction above 63 reads as absent and an object
+  -- above 15 as of no kind, so that `live` and `fits` keep them out.
   pub record Sound (w : List ℕ) : Type 0 where
     pub packed : Packed format w
     pub store : SoundStore (decode format w)

@@ -16,6 +16,7 @@ abbrev pub without : ℕ → List Logged → List Logged
 without t [] = []
 without t (l ∷ log) = cond (eqb (l .entry .transaction) t) (without t log) (l ∷ without t log)
 
+-- The transaction's status stays.
 abbrev pub dropped : ℕ → Store → Store
 dropped t s = record { statuses = s .statuses; objects = s .objects; log = without t (s .log) }
 
@@ -29,7 +30,7 @@ folded object o s = record { statuses = s .statuses; objects = set (s .objects) 
 abbrev pub withStatus : ℕ → Status → Store → Store
 withStatus t status s = record { statuses = set (s .statuses) t status; objects = s .objects; log = s .log }
 
--- Ranks close up when one has been taken out: those above it go down by one.
+-- Ranks close up when one has been taken out: those above it go down by one, others stay.
 abbrev pub lowered : ℕ → Status → Status
 lowered out absent = absent
 lowered out active = active

@@ -1,5 +1,5 @@
 -- Document 01, "The book": what a book holds, as a value.
-use Prim.Native.Nat.{ℕ}
+use Prim.Native.Nat.{ℕ, suc}
 use mathlib.Core.Path.{_≡_}
 use mathlib.Core.Bool.{cond}
 use mathlib.Core.Option.{Option, none}
@@ -48,6 +48,16 @@ Active s t = statusOf s t ≡ active
 
 abbrev pub PseudoCommitted : Store → ℕ → Type 0
 PseudoCommitted s t = (rank : ℕ) × (statusOf s t ≡ pseudoCommitted rank)
+
+abbrev pub finishedIn : List Status → ℕ
+finishedIn [] = 0
+finishedIn (absent ∷ l) = finishedIn l
+finishedIn (active ∷ l) = finishedIn l
+finishedIn (pseudoCommitted rank ∷ l) = suc (finishedIn l)
+
+-- How many are pseudo-committed (finished).
+abbrev pub finishedCount : Store → ℕ
+finishedCount s = finishedIn (s .statuses)
 
 -- The entries of one object, in order.
 abbrev pub onObject : ℕ → List Logged → List (Entry Operation Reply)

@@ -30,12 +30,12 @@ pub record ObjectsLaid (format : Format) : Type 0 where
 
 -- ---- A status
 
-status-written : (n : ℕ) → statusWord (readStatus n) ≡ n
+pub status-written : (n : ℕ) → statusWord (readStatus n) ≡ n
 status-written zero = refl
 status-written (suc zero) = refl
 status-written (suc (suc rank)) = omega arith
 
-status-read : (status : Status) → readStatus (statusWord status) ≡ status
+pub status-read : (status : Status) → readStatus (statusWord status) ≡ status
 status-read absent = refl
 status-read active = refl
 status-read (pseudoCommitted rank) = let e : 2 + rank ≡ suc (suc rank) = omega arith in ap readStatus e

@@ -1,0 +1,47 @@
+-- `cycles::acyclic`: those passed lie on no cycle.
+use borrow.Author.Needs.{needs}
+use Rattle.cycles.specs.Laws.{OffCycle, Walk, walk-begun, walk-turned, walk-ended, walk-stopped, rest-less, yes, no, denied}
+use Rattle.cycles.proofs.acyclic.Statement.{statement}
+use Rattle.cycles.proofs.acyclic.Tie as tie
+
+abbrev Inv-loop : tie.InvT-loop
+Inv-loop edges finished left₀ left = Walk (OffCycle edges finished) finished left
+
+abbrev μ-loop : tie.MeasureT-loop
+μ-loop edges finished left₀ left = left
+
+loop-holds : tie.Need-loop-holds Inv-loop μ-loop
+loop-holds c = walk-begun _ _
+
+returns : tie.Need-returns Inv-loop μ-loop
+returns c =
+    no
+    (walk-stopped _ _ _ _ (c .before .before .before .before .loop .inv) (c .before .before .lowest .ensures .member)
+    (λ off. off (c .before .on-cycle .ensures .0 (c .if1 .taken))))
+
+loop-less : tie.Need-loop-less Inv-loop μ-loop
+loop-less c = rest-less _ _ _ (c .without .ensures) (c .before .before .before .lowest .ensures .member)
+
+loop-again : tie.Need-loop-again Inv-loop μ-loop
+loop-again c =
+    walk-turned _ _ _ _ _ (c .before .before .before .before .before .loop .inv)
+    (denied _ (c .before .before .on-cycle .ensures) (c .before .if1 .left))
+    (c .without .ensures)
+
+returns-2 : tie.Need-returns-2 Inv-loop μ-loop
+returns-2 c = yes (walk-ended _ _ _ (c .before .loop .inv) (c .loop-test .left))
+
+pub acyclic-spec : {M : Type 1} → statement M
+acyclic-spec =
+    tie.close
+    (tie.spec
+    Inv-loop
+    μ-loop
+    loop-holds
+    (λ c κs. search needs)
+    (λ c κs. search needs)
+    returns
+    (λ c κs. search needs)
+    loop-less
+    loop-again
+    returns-2)

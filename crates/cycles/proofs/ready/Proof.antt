@@ -1,0 +1,11 @@
+-- `cycles::ready`: the set is empty.
+use borrow.Author.Needs.{needs}
+use Rattle.cycles.specs.Laws.{nobody}
+use Rattle.cycles.proofs.ready.Statement.{statement}
+use Rattle.cycles.proofs.ready.Tie as tie
+
+returns : tie.Need-returns
+returns c = nobody _ (c .dependencies .result) (c .dependencies .ensures)
+
+pub ready-spec : {M : Type 1} → statement M
+ready-spec = tie.close (tie.spec (λ c κs. search needs) returns)

@@ -1,0 +1,150 @@
+// The statuses of transactions: words 1 to 64 of the book.
+use bitset::contains;
+use bitset::join;
+use bitset::single;
+ghost use mathlib.Core.Path.{_≡_};
+ghost use mathlib.Core.Bool.{true, _&&_, _||_};
+ghost use mathlib.Core.Logic.{_↔_};
+ghost use Prim.Native.Nat.{_+_, _<_};
+ghost use lib.Dec.{eqb};
+ghost use lib.ListN.{length};
+ghost use Rattle.bitset.specs.Bitset.{has, Members};
+ghost use Rattle.store.specs.Layout.{Packed, base, decode, encode, readStatus, word};
+ghost use Rattle.store.specs.Store.{Live, PseudoCommitted, finishedCount};
+ghost use Rattle.store.specs.Soundness.{OnceEach, WithoutGaps};
+ghost use Rattle.store.specs.Steps.{withStatus, closedUp};
+ghost use Rattle.statuses.specs.Statuses.{Has, Noted, Downward, loweredWord};
+
+// Who is live, who is pseudo-committed, and whether ranks are 0, 1, 2 and on, once each.
+pub struct Summary {
+    pub live: u64,
+    pub finished: u64,
+    pub ranked: bool,
+}
+
+// The ranks seen so far, and whether each was below 64 and seen once.
+struct Ranks {
+    seen: u64,
+    once: bool,
+}
+
+fn status_word(book: &[u32], transaction: u32) -> u32
+    requires { ⌜ (length (now book) ≡ 3937) × (transaction < 64) ⌝ }
+    ensures { λ r. ⌜ r ≡ word (now (book .entry)) (1 + transaction) ⌝ }
+{
+    let at = transaction as usize;
+    book[1 + at]
+}
+
+// The set, with the transaction where the test holds.
+fn marked(set: u64, transaction: u32, test: bool) -> u64
+    requires { ⌜ transaction < 64 ⌝ }
+    ensures { λ r. ⌜ Members r (λ h. has set h || (test && eqb h transaction)) ⌝ }
+{
+    if test {
+        return join(set, single(transaction));
+    }
+    set
+}
+
+// The ranks seen, with that of one more status.
+fn noted(ranks: Ranks, status: u32) -> Ranks
+    ensures { λ r. ⌜ Noted (readStatus status) ranks r ⌝ }
+{
+    if status < 2 {
+        return ranks;
+    }
+    let rank = status - 2;
+    if rank >= 64 || contains(ranks.seen, rank) {
+        return Ranks {
+            seen: ranks.seen,
+            once: false,
+        };
+    }
+    Ranks {
+        seen: join(ranks.seen, single(rank)),
+        once: ranks.once,
+    }
+}
+
+// Whether each rank was seen once, and with each but 0 the one below it.
+fn in_order(ranks: Ranks) -> bool
+    ensures { λ r. ⌜ (r ≡ true) ↔ ((ranks .once ≡ true) × Downward (ranks .seen)) ⌝ }
+{
+    let seen = ranks.seen;
+    if ranks.once {
+        return join(seen, seen >> 1) == seen;
+    }
+    false
+}
+
+pub fn statuses(book: &[u32]) -> Summary
+    requires { ⌜ length (now book) ≡ 3937 ⌝ }
+    ensures { λ r. ⌜ Has (r .live) (Live (decode base (now (book .entry)))) × Has (r .finished) (PseudoCommitted (decode base (now (book .entry)))) × ((r .ranked ≡ true) ↔ (OnceEach (decode base (now (book .entry))) × WithoutGaps (decode base (now (book .entry))))) ⌝ }
+{
+    let mut live: u64 = 0;
+    let mut finished: u64 = 0;
+    let mut ranks = Ranks {
+        seen: 0,
+        once: true,
+    };
+    let mut transaction: u32 = 0;
+    while transaction < 64 {
+        let status = status_word(book, transaction);
+        live = marked(live, transaction, status > 0);
+        finished = marked(finished, transaction, status > 1);
+        ranks = noted(ranks, status);
+        transaction += 1;
+    }
+    Summary {
+        live: live,
+        finished: finished,
+        ranked: in_order(ranks),
+    }
+}
+
+// How many transactions are pseudo-committed: the rank that the next one gets.
+pub fn next_rank(book: &[u32]) -> u32
+    requires { ⌜ length (now book) ≡ 3937 ⌝ }
+    ensures { λ r. ⌜ r ≡ finishedCount (decode base (now (book .entry))) ⌝ }
+{
+    let mut count: u32 = 0;
+    let mut transaction: u32 = 0;
+    while transaction < 64 {
+        if status_word(book, transaction) > 1 {
+            count += 1;
+        }
+        transaction += 1;
+    }
+    count
+}
+
+pub fn set_status(book: &mut [u32], transaction: u32, status: u32)
+    requires { ⌜ Packed base (now book) × (transaction < 64) ⌝ }
+    ensures { λ r. ⌜ now (book .exit) ≡ encode base (withStatus transaction (readStatus status) (decode base (now (book .entry)))) ⌝ }
+{
+    let at = transaction as usize;
+    book[1 + at] = status;
+}
+
+// A status once rank `out` is taken out.
+fn lowered(status: u32, out: u32) -> u32
+    ensures { λ r. ⌜ r ≡ loweredWord out status ⌝ }
+{
+    if status >= 2 && status - 2 > out {
+        return status - 1;
+    }
+    status
+}
+
+// Ranks above `out` go down by one.
+pub fn close_ranks(book: &mut [u32], out: u32)
+    requires { ⌜ Packed base (now book) ⌝ }
+    ensures { λ r. ⌜ now (book .exit) ≡ encode base (closedUp out (decode base (now (book .entry)))) ⌝ }
+{
+    let mut t: usize = 0;
+    while t < 64 {
+        book[1 + t] = lowered(book[1 + t], out);
+        t += 1;
+    }
+}
