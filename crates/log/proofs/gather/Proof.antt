@@ -1,5 +1,5 @@
 -- `log::gather`: of the entries before i, those of other transactions stand at the front.
-use Prim.Native.Nat.{_+_, _-_, _≤_}
+use Prim.Native.Nat.{_-_, _≤_}
 use mathlib.Core.Path.{_≡_, subst}
 use mathlib.Core.Logic.{⊎-elim}
 use native.Mathlib.Omega.{arith}
@@ -19,21 +19,19 @@ abbrev μ-loop : tie.MeasureT-loop
 loop-holds : tie.Need-loop-holds Inv-loop μ-loop
 loop-holds c = (omega arith, gathered-none _ _)
 
-next : (c : tie.Joined1 Inv-loop μ-loop)
-    → Gathered (c .before .before .before .before .before .before .before .before .args .book .now) (c .before .before .before .before .before .before .before .before .args .transaction)
-    (c .before .before .before .before .loop .i + 1) (c .if1 .book) (c .if1 .kept)
-next c =
-    let read = c .before in
-    let at-loop = read .before .before .before in
-    let counted = at-loop .before in
-    let start = counted .before .before .before in
-    ⊎-elim
-    (λ w. rw (w .5, w .6) (gathered-kept _ _ _ _ _ (at-loop .loop .inv .1) _ _ (start .pre .asStored _ (omega (arith, counted .entry-count .ensures, read .before .before .loop-test .taken))) (read .entry-transaction .ensures) (w .0 .taken) (w .2 .ensures)))
-    (λ w. rw (w .1, w .2) (gathered-own _ _ _ _ _ (at-loop .loop .inv .1) _ (read .entry-transaction .ensures) (w .0 .left)))
-    (c .if1 .came)
-
 loop-again : tie.Need-loop-again Inv-loop μ-loop
-loop-again c = (omega arith, next c)
+loop-again c =
+    let read = c .before in
+    let in-loop = read .before .before in
+    let at-loop = in-loop .before in
+    let start = at-loop .before .before .before .before in
+    let stored = start .pre .asStored (at-loop .loop .i) (omega (arith, at-loop .before .entry-count .ensures, in-loop .loop-test .taken)) in (
+      omega arith,
+      ⊎-elim
+          (λ w. rw (w .5, w .6) (gathered-kept _ _ _ _ _ (at-loop .loop .inv .1) _ _ stored (read .entry-transaction .ensures) (w .0 .taken) (w .2 .ensures)))
+          (λ w. rw (w .1, w .2) (gathered-own _ _ _ _ _ (at-loop .loop .inv .1) _ (read .entry-transaction .ensures) (w .0 .left)))
+          (c .if1 .came),
+    )
 
 returns : tie.Need-returns Inv-loop μ-loop
 returns c =
