@@ -1,0 +1,134 @@
+-- What the tests of one entry say, and of all.
+use Prim.Native.Nat.{ℕ, zero, suc, _+_, _≤_, _<_}
+use mathlib.Core.Path.{_≡_, refl, sym, ap, _∙_}
+use mathlib.Core.Bool.{Bool, true, false}
+use mathlib.Core.Logic.{_↔_, _⊎_, inl, inr, ⊎-elim}
+use mathlib.Core.Option.{some, Option·none-ne-some}
+use mathlib.Core.List.{List}
+use native.Mathlib.Omega.{arith}
+use borrow.Author.Tests.{eqb-true, eq-eqb, ltb-true, lt-ltb, le-ltb}
+use lib.Dec.{eqb, ltb}
+use Rattle.bitset.specs.Bitset.{has}
+use Rattle.operations.specs.Operations.{Kind, Stack, Set, Table, push, pop, top, setInsert, setDelete, member, tableInsert, tableDelete, lookup, size, modify, Operation, onStack, onSet, onTable, kindOf, numberOf, keyOf, reduceKey, Reduced, StoredKey}
+use Rattle.store.specs.Store.{Object, Live, objectOf, Logged}
+use Rattle.store.specs.Layout.{base, decode, word, kindWord, readKind, objectStart, entryStart, entryAt, operationAt, Packed}
+use Rattle.store.specs.Soundness.{EntriesLive, EntriesFit, KeysReduced}
+use Rattle.store.specs.Laws.Lists.{all-each, all-of}
+use Rattle.store.specs.Laws.Reading.{live-below, object-read, kind-below}
+use Rattle.log.specs.Log.{kindBy, LiveSet, EntryFits}
+use Rattle.log.specs.Laws.Checks.{yes, no, Each}
+
+-- ---- Kinds
+
+pub kind-low : (n : ℕ) → n < 4 → 1 ≡ kindBy n
+kind-low n l = simp (lt-ltb n 4 l)
+
+pub kind-middle : (n : ℕ) → 4 ≤ n → n < 7 → 2 ≡ kindBy n
+kind-middle n l m = simp (le-ltb n 4 l, lt-ltb n 7 m)
+
+pub kind-high : (n : ℕ) → 4 ≤ n → 7 ≤ n → 3 ≡ kindBy n
+kind-high n l m = simp (le-ltb n 4 l, le-ltb n 7 m)
+
+kind-by : (o : Operation) → kindBy (numberOf o) ≡ kindWord (some (kindOf o))
+kind-by (onStack (push x)) = refl
+kind-by (onStack pop) = refl
+kind-by (onStack top) = refl
+kind-by (onSet (setInsert k)) = refl
+kind-by (onSet (setDelete k)) = refl
+kind-by (onSet (member k)) = refl
+kind-by (onTable (tableInsert k v)) = refl
+kind-by (onTable (tableDelete k)) = refl
+kind-by (onTable (lookup k)) = refl
+kind-by (onTable size) = refl
+kind-by (onTable (modify k v)) = refl
+
+kind-written : (n : ℕ) (k : Kind) → readKind n ≡ some k → n ≡ kindWord (some k)
+kind-written zero k e = absurd (Option·none-ne-some k e)
+kind-written (suc zero) k e = ap kindWord e
+kind-written (suc (suc zero)) k e = ap kindWord e
+kind-written (suc (suc (suc zero))) k e = ap kindWord e
+kind-written (suc (suc (suc (suc n)))) k e = absurd (Option·none-ne-some k e)
+
+kind-read : (k : Kind) → readKind (kindWord (some k)) ≡ some k
+kind-read Stack = refl
+kind-read Set = refl
+kind-read Table = refl
+
+object-kind : (w : List ℕ) (o : ℕ) (k : Kind) → ((o < 16) × (word w (objectStart o) ≡ kindWord (some k))) ↔ (objectOf (decode base w) o .kind ≡ some k)
+object-kind w o k = (
+  λ p. ap (λ (x : Object). x .kind) (object-read base w o (p .0)) ∙ ap readKind (p .1) ∙ kind-read k,
+  λ e.
+      let l : o < 16 = kind-below base w o k e in
+      (l, kind-written (word w (objectStart o)) k (sym (ap (λ (x : Object). x .kind) (object-read base w o l)) ∙ e)),
+)
+
+-- ---- Keys
+
+reduced : (k : ℕ) → (k < 16_777_216) ↔ Reduced reduceKey k
+unfolding reduceKey
+reduced k = (λ l. omega arith, λ e. omega arith)
+
+stored-key : (o : Operation) → ((kindWord (some (kindOf o)) ≡ 1) ⊎ (keyOf o < 16_777_216)) ↔ StoredKey reduceKey o
+stored-key (onStack o) = (λ p. tt, λ s. inl refl)
+stored-key (onSet o) = (⊎-elim (λ e. absurd (omega arith)) (λ l. reduced _ .0 l), λ s. inr (reduced _ .1 s))
+stored-key (onTable o) = (⊎-elim (λ e. absurd (omega arith)) (λ l. reduced _ .0 l), λ s. inr (reduced _ .1 s))
+
+-- ---- One entry
+
+module _ (w : List ℕ) (i : ℕ) where
+  abbrev EntryLive : Type 0
+  EntryLive = Live (decode base w) (word w (entryStart i))
+
+  abbrev OfKind : Type 0
+  OfKind = objectOf (decode base w) (word w (entryStart i + 1)) .kind ≡ some (kindOf (operationAt w i))
+
+  abbrev KeyReduced : Type 0
+  KeyReduced = StoredKey reduceKey (operationAt w i)
+
+  pub live-past : (t : ℕ) → t ≡ word w (entryStart i) → 64 ≤ t → (false ≡ true) ↔ EntryLive
+  live-past t e l = no refl (λ live. omega (arith, live-below base w (word w (entryStart i)) live))
+
+  pub live-tested : (live t : ℕ) (b : Bool) → t ≡ word w (entryStart i) → LiveSet live w → b ≡ has live t
+      → (b ≡ true) ↔ EntryLive
+  live-tested live t b e lives r = rw (r, ← e) (lives t)
+
+  pub kind-past : (o : ℕ) → o ≡ word w (entryStart i + 1) → 16 ≤ o → (false ≡ true) ↔ OfKind
+  kind-past o e l = no refl (λ k. omega (arith, kind-below base w (word w (entryStart i + 1)) (kindOf (operationAt w i)) k))
+
+  module _ (packed : Packed base w) (l : i < word w 0) (n kind : ℕ) (number : n ≡ word w (entryStart i + 2)) (by : kind ≡ kindBy n) where
+    kind-stored : kind ≡ kindWord (some (kindOf (operationAt w i)))
+    kind-stored = by ∙ ap kindBy (number ∙ sym (packed .asStored i l .0)) ∙ kind-by (operationAt w i)
+
+    pub kind-tested : (o x : ℕ) → o ≡ word w (entryStart i + 1) → o < 16 → x ≡ word w (objectStart o) → (eqb x kind ≡ true) ↔ OfKind
+    kind-tested o x e m r =
+        let h = object-kind w o (kindOf (operationAt w i)) in
+        rw (← e) (λ q. h .0 (m, sym r ∙ eqb-true x kind q ∙ kind-stored), λ p. eq-eqb x kind (r ∙ h .1 p .1 ∙ sym kind-stored))
+
+    pub no-key : kind ≡ 1 → (eqb kind 1 ≡ true) ↔ KeyReduced
+    no-key e = yes (eq-eqb kind 1 e) (stored-key (operationAt w i) .0 (inl (sym kind-stored ∙ e)))
+
+    pub key-tested : (k : ℕ) → k ≡ word w (entryStart i + 3) → (kind ≡ 1 → ⊥) → (ltb k 16_777_216 ≡ true) ↔ KeyReduced
+    key-tested k e other =
+        let o = operationAt w i in
+        let same : k ≡ keyOf o = e ∙ sym (packed .asStored i l .1) in (
+          λ q. stored-key o .0 (inr (rw same at (ltb-true k 16_777_216 q))),
+          λ s. ⊎-elim (λ q. absurd (other (kind-stored ∙ q))) (λ m. lt-ltb k 16_777_216 (rw same m)) (stored-key o .1 s),
+        )
+
+-- ---- All entries
+
+pub each-fits : (w : List ℕ) (n : ℕ) → n ≡ word w 0
+    → Each (EntryFits w) n ↔ (EntriesLive base (decode base w) × EntriesFit base (decode base w) × KeysReduced base (decode base w))
+each-fits w n counted =
+    let s = decode base w in
+    let Alive : Logged → Type 0 = λ (l : Logged). Live s (l .entry .transaction) in
+    let Kinded : Logged → Type 0 = λ (l : Logged). objectOf s (l .object) .kind ≡ some (kindOf (l .entry .operation)) in
+    let Keyed : Logged → Type 0 = λ (l : Logged). StoredKey reduceKey (l .entry .operation) in
+    rw (← counted) (
+      λ each. (
+        all-of Alive n (entryAt w) (λ i l. each i l .0),
+        all-of Kinded n (entryAt w) (λ i l. each i l .1),
+        all-of Keyed n (entryAt w) (λ i l. each i l .2),
+      ),
+      λ p i l. (all-each Alive n (entryAt w) (p .0) i l, all-each Kinded n (entryAt w) (p .1) i l, all-each Keyed n (entryAt w) (p .2) i l),
+    )

@@ -1,0 +1,71 @@
+-- What the functions of the log say of the book's words.
+use Prim.Native.Nat.{ℕ, _+_, _≤_, _<_}
+use mathlib.Core.Path.{_≡_}
+use mathlib.Core.Bool.{true, cond}
+use mathlib.Core.Logic.{_↔_}
+use mathlib.Core.Option.{some}
+use mathlib.Core.List.{List, [], _∷_}
+use lib.Dec.{ltb}
+use lib.ListN.{length}
+use lib.Seq.{sets}
+use Rattle.bitset.specs.Bitset.{has}
+use Rattle.operations.specs.Operations as model
+use Rattle.operations.specs.declared.Operation.{Operation}
+use Rattle.operations.specs.declared.Reply.{Reply}
+use Rattle.store.specs.Store.{Logged, Live, objectOf}
+use Rattle.store.specs.Layout.{base, decode, joined, tabulate, word, orPop, entryStart, entryWords, entryAt, AsStored}
+use Rattle.store.specs.Steps.{without}
+
+-- Ranges and zeros of the log: the fields `entries`, `asStored` and `unused` of `Packed`.
+abbrev pub LogPacked : List ℕ → Type 0
+LogPacked w = (word w 0 ≤ 256) × ((i : ℕ) → i < word w 0 → AsStored w i) × ((i : ℕ) → entryStart (word w 0) ≤ i → word w i ≡ 0)
+
+-- Number, key and value are what is stored for the operation that they are read as.
+abbrev pub StoredWords : ℕ → ℕ → ℕ → Type 0
+StoredWords number key value =
+    let o = orPop (model.stored (λ k. k) number key value) in
+    (model.numberOf o ≡ number) × (model.keyOf o ≡ key) × (model.valueOf o ≡ value)
+
+-- The kind's word, by an operation's number.
+abbrev pub kindBy : ℕ → ℕ
+kindBy number = cond (ltb number 4) 1 (cond (ltb number 7) 2 3)
+
+-- The set of the live transactions.
+abbrev pub LiveSet : ℕ → List ℕ → Type 0
+LiveSet live w = (t : ℕ) → (has live t ≡ true) ↔ Live (decode base w) t
+
+-- Entry i belongs to a live transaction, fits its object's kind, and its key is reduced.
+abbrev pub EntryFits : List ℕ → ℕ → Type 0
+EntryFits w i =
+    let s = decode base w in
+    let l = entryAt w i in
+    let o = l .entry .operation in
+    Live s (l .entry .transaction) × (objectOf s (l .object) .kind ≡ some (model.kindOf o)) × model.StoredKey model.reduceKey o
+
+-- The code's operation is what is stored for the model's.
+abbrev pub StoredAs : Operation → model.Operation → Type 0
+StoredAs operation o = (operation .number ≡ model.numberOf o) × (operation .key ≡ model.keyOf o) × (operation .value ≡ model.valueOf o)
+
+abbrev pub logged : ℕ → ℕ → model.Operation → model.Reply → Logged
+logged transaction object o answer = record { object = object; entry = record { transaction = transaction; operation = o; answer = answer } }
+
+-- An entry's words: of its parts, and read from the book.
+abbrev pub wordsOf : ℕ → ℕ → Operation → Reply → List ℕ
+wordsOf transaction object operation answer =
+    transaction ∷ object ∷ operation .number ∷ operation .key ∷ operation .value ∷ answer .code ∷ answer .value ∷ []
+
+abbrev pub wordsAt : List ℕ → ℕ → List ℕ
+wordsAt w i =
+    let start = entryStart i in
+    word w start ∷ word w (start + 1) ∷ word w (start + 2) ∷ word w (start + 3) ∷ word w (start + 4) ∷ word w (start + 5) ∷ word w (start + 6) ∷ []
+
+-- The entries before entry i that are not the transaction's.
+abbrev pub others : List ℕ → ℕ → ℕ → List Logged
+others w t i = without t (tabulate i (entryAt w))
+
+-- The book is w with those entries, `kept` in number, written over the log's first words.
+pub record Gathered (w : List ℕ) (t i : ℕ) (book : List ℕ) (kept : ℕ) : Type 0 where
+  pub few : kept ≤ i
+  pub count : kept ≡ length (others w t i)
+  pub size : length book ≡ length w
+  pub words : book ≡ sets w 2_145 (joined entryWords (others w t i))

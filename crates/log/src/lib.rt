@@ -1,0 +1,220 @@
+// The log in the book: word 0, and the entries from word 2,145 on.
+use operations::Operation;
+use operations::Reply;
+ghost use mathlib.Core.Path.{_≡_};
+ghost use mathlib.Core.Logic.{_↔_};
+ghost use mathlib.Core.Bool.{true};
+ghost use mathlib.Core.Option.{some};
+ghost use Prim.Native.Nat.{ℕ, _+_, _-_, _≤_, _<_};
+ghost use lib.ListN.{length, replicate};
+ghost use lib.Seq.{sets};
+ghost use Rattle.bitset.specs.Bitset.{has};
+ghost use Rattle.operations.specs.Operations as model;
+ghost use Rattle.operations.specs.Stored.{asReply};
+ghost use Rattle.store.specs.Store.{Live, objectOf};
+ghost use Rattle.store.specs.Layout.{Packed, base, encode, decode, word, entryStart, operationAt, AsStored};
+ghost use Rattle.store.specs.Steps.{appended, dropped};
+ghost use Rattle.store.specs.Soundness.{EntriesLive, EntriesFit, KeysReduced};
+ghost use Rattle.log.specs.Log.{LogPacked, StoredWords, kindBy, LiveSet, EntryFits, StoredAs, logged, wordsOf, wordsAt, Gathered};
+
+// Reduced keys are below this.
+const KEYS: u32 = 16_777_216;
+
+fn wide(x: u32) -> usize
+    ensures { λ r. ⌜ r ≡ x ⌝ }
+{
+    x as usize
+}
+
+// Whether the words are those that are stored for an operation: its number is in range, and an argument that it does not use is 0.
+fn is_stored(operation: Operation) -> bool
+    ensures { λ r. ⌜ (r ≡ true) ↔ StoredWords (operation .number) (operation .key) (operation .value) ⌝ }
+{
+    let number = operation.number;
+    match number {
+        1 | 4 | 5 | 6 | 8 | 9 => operation.value == 0,
+        2 | 3 | 10 => operation.key == 0 && operation.value == 0,
+        7 | 11 => true,
+        _ => false,
+    }
+}
+
+fn are_stored(book: &[u32], count: usize) -> bool
+    requires { ⌜ (length (now book) ≡ 3937) × (count ≤ 256) ⌝ }
+    ensures { λ r. ⌜ (r ≡ true) ↔ ((i : ℕ) → i < count → AsStored (now (book .entry)) i) ⌝ }
+{
+    for i in 0..count {
+        if !is_stored(layout::entry_operation(book, i)) {
+            return false;
+        }
+    }
+    true
+}
+
+// Ranges and zeros of the log.
+pub fn packed(book: &[u32]) -> bool
+    requires { ⌜ length (now book) ≡ 3937 ⌝ }
+    ensures { λ r. ⌜ (r ≡ true) ↔ LogPacked (now (book .entry)) ⌝ }
+{
+    let count = layout::entry_count(book);
+    if count > layout::ENTRIES {
+        return false;
+    }
+    if !are_stored(book, count) {
+        return false;
+    }
+    let start = layout::LOG + layout::ENTRY * count;
+    layout::is_zero(&book[start..])
+}
+
+// The kind that an operation is of, by its number.
+fn kind_of(number: u32) -> u32
+    ensures { λ r. ⌜ r ≡ kindBy number ⌝ }
+{
+    if number < 4 {
+        return 1;
+    }
+    if number < 7 {
+        return 2;
+    }
+    3
+}
+
+fn is_live(book: &[u32], live: u64, i: usize) -> bool
+    requires { ⌜ (length (now book) ≡ 3937) × (i < 256) × LiveSet live (now book) ⌝ }
+    ensures { λ r. ⌜ (r ≡ true) ↔ Live (decode base (now (book .entry))) (word (now (book .entry)) (entryStart i)) ⌝ }
+{
+    let transaction = layout::entry_transaction(book, i);
+    if wide(transaction) >= layout::TRANSACTIONS {
+        return false;
+    }
+    bitset::contains(live, transaction)
+}
+
+fn of_kind(book: &[u32], i: usize) -> bool
+    requires { ⌜ Packed base (now book) × (i < word (now book) 0) ⌝ }
+    ensures { λ r. ⌜ (r ≡ true) ↔ (objectOf (decode base (now (book .entry))) (word (now (book .entry)) (entryStart i + 1)) .kind ≡ some (model.kindOf (operationAt (now (book .entry)) i))) ⌝ }
+{
+    let object = wide(layout::entry_object(book, i));
+    if object >= layout::OBJECTS {
+        return false;
+    }
+    let operation = layout::entry_operation(book, i);
+    layout::object_kind(book, object) == kind_of(operation.number)
+}
+
+fn is_reduced(book: &[u32], i: usize) -> bool
+    requires { ⌜ Packed base (now book) × (i < word (now book) 0) ⌝ }
+    ensures { λ r. ⌜ (r ≡ true) ↔ model.StoredKey model.reduceKey (operationAt (now (book .entry)) i) ⌝ }
+{
+    let operation = layout::entry_operation(book, i);
+    kind_of(operation.number) == 1 || operation.key < KEYS
+}
+
+fn entry_fits(book: &[u32], live: u64, i: usize) -> bool
+    requires { ⌜ Packed base (now book) × (i < word (now book) 0) × LiveSet live (now book) ⌝ }
+    ensures { λ r. ⌜ (r ≡ true) ↔ EntryFits (now (book .entry)) i ⌝ }
+{
+    if !is_live(book, live, i) {
+        return false;
+    }
+    of_kind(book, i) && is_reduced(book, i)
+}
+
+// Whether each entry belongs to a live transaction, fits its object's kind and has a reduced key.
+pub fn fits(book: &[u32], live: u64) -> bool
+    requires { ⌜ Packed base (now book) × ((t : ℕ) → (has live t ≡ true) ↔ Live (decode base (now book)) t) ⌝ }
+    ensures { λ r. ⌜ (r ≡ true) ↔ (EntriesLive base (decode base (now (book .entry))) × EntriesFit base (decode base (now (book .entry))) × KeysReduced base (decode base (now (book .entry)))) ⌝ }
+{
+    let count = layout::entry_count(book);
+    for i in 0..count {
+        if !entry_fits(book, live, i) {
+            return false;
+        }
+    }
+    true
+}
+
+// An entry's seven words, put at place i of the log.
+fn put(
+    book: &mut [u32],
+    i: usize,
+    transaction: u32,
+    object: u32,
+    operation: Operation,
+    answer: Reply,
+)
+    requires { ⌜ (length (now book) ≡ 3937) × (i < 256) ⌝ }
+    ensures { λ r. ⌜ now (book .exit) ≡ sets (now (book .entry)) (entryStart i) (wordsOf transaction object operation answer) ⌝ }
+{
+    let start = layout::LOG + layout::ENTRY * i;
+    book[start] = transaction;
+    book[start + 1] = object;
+    book[start + 2] = operation.number;
+    book[start + 3] = operation.key;
+    book[start + 4] = operation.value;
+    book[start + 5] = answer.code;
+    book[start + 6] = answer.value;
+}
+
+// An entry put last.
+pub fn append(book: &mut [u32], transaction: u32, object: u32, operation: Operation, answer: Reply)
+    requires { ⌜ Packed base (now book) × (word (now book) 0 < 256) ⌝ }
+    ensures { λ r. ⌜ ((o : model.Operation) → StoredAs operation o → now (book .exit) ≡ encode base (appended (logged transaction object o (asReply answer)) (decode base (now (book .entry))))) ⌝ }
+{
+    let count = layout::entry_count(book);
+    put(book, count, transaction, object, operation, answer);
+    book[0] += 1;
+}
+
+// The words of one entry, written over those of another.
+fn move_entry(book: &mut [u32], from: usize, to: usize)
+    requires { ⌜ (length (now book) ≡ 3937) × (from < 256) × (to < 256) ⌝ }
+    ensures { λ r. ⌜ now (book .exit) ≡ sets (now (book .entry)) (entryStart to) (wordsAt (now (book .entry)) from) ⌝ }
+{
+    let transaction = layout::entry_transaction(book, from);
+    let object = layout::entry_object(book, from);
+    let operation = layout::entry_operation(book, from);
+    let answer = layout::entry_answer(book, from);
+    put(book, to, transaction, object, operation, answer);
+}
+
+// The entries of other transactions, moved to the front of the log, and their number.
+fn gather(book: &mut [u32], transaction: u32) -> usize
+    requires { ⌜ Packed base (now book) ⌝ }
+    ensures { λ r. ⌜ Gathered (now (book .entry)) transaction (word (now (book .entry)) 0) (now (book .exit)) r ⌝ }
+{
+    let count = layout::entry_count(book);
+    let mut kept: usize = 0;
+    for i in 0..count {
+        if layout::entry_transaction(book, i) != transaction {
+            move_entry(book, i, kept);
+            kept += 1;
+        }
+    }
+    kept
+}
+
+fn clear(book: &mut [u32], start: usize, end: usize)
+    requires { ⌜ (start ≤ end) × (end ≤ length (now book)) ⌝ }
+    ensures { λ r. ⌜ now (book .exit) ≡ sets (now (book .entry)) start (replicate (end - start) 0) ⌝ }
+{
+    for i in start..end {
+        book[i] = 0;
+    }
+}
+
+// The entries of one transaction leave the log.
+pub fn remove(book: &mut [u32], transaction: u32)
+    requires { ⌜ Packed base (now book) ⌝ }
+    ensures { λ r. ⌜ now (book .exit) ≡ encode base (dropped transaction (decode base (now (book .entry)))) ⌝ }
+{
+    let count = layout::entry_count(book);
+    let kept = gather(book, transaction);
+    clear(
+        book,
+        layout::LOG + layout::ENTRY * kept,
+        layout::LOG + layout::ENTRY * count,
+    );
+    book[0] = kept as u32;
+}
