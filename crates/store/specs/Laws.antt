@@ -1,2 +1,5 @@
 pub mod Lists
 pub mod Reading
+pub mod Words
+pub mod Encoding
+pub mod Objects

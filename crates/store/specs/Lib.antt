@@ -4,3 +4,4 @@ pub mod Layout
 pub mod Soundness
 pub mod Steps
 pub mod Laws
+pub mod Theorems
