@@ -1,3 +1,4 @@
 pub mod Tests
 pub mod Ranges
 pub mod Rows
+pub mod Writing

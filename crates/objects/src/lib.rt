@@ -1,13 +1,20 @@
 // The objects in the book, words 65 to 2,144: their ranges and zeros, the form of their rows, and an operation folded into one.
+use operations::Operation;
 ghost use mathlib.Core.Path.{_≡_};
 ghost use mathlib.Core.Bool.{true};
 ghost use mathlib.Core.Logic.{_↔_};
-ghost use Prim.Native.Nat.{ℕ, _<_, _≤_};
-ghost use lib.ListN.{length};
+ghost use mathlib.Core.Option.{some};
+ghost use mathlib.Core.List.{_++_, map};
+ghost use Prim.Native.Nat.{ℕ, _*_, _<_, _≤_};
+ghost use lib.ListN.{length, drop};
+ghost use Rattle.operations.specs.Operations as model;
 ghost use Rattle.operations.specs.Operations.{All, NoValue};
-ghost use Rattle.store.specs.Layout.{base, decode, rowsAt, ObjectPacked};
+ghost use Rattle.operations.specs.Stored.{operationOf};
+ghost use Rattle.replay.specs.Replay.{rowOf, nextOf};
+ghost use Rattle.store.specs.Layout.{Packed, ObjectPacked, base, decode, encode, word, joined, rowWords, rowsAt};
 ghost use Rattle.store.specs.Soundness.{RowsFormed};
-ghost use Rattle.objects.specs.Objects.{InRange, Keyed, Formed};
+ghost use Rattle.store.specs.Steps.{folded};
+ghost use Rattle.objects.specs.Objects.{InRange, Keyed, Formed, wordsOf, rowsIn};
 
 // Keys are reduced to the remainder by this.
 const KEYS: u32 = 16_777_216;
@@ -108,4 +115,47 @@ pub fn formed(book: &[u32]) -> bool
         }
     }
     true
+}
+
+// Writes rows at the part's front, two words a row.
+fn write_rows(part: &mut [u32], rows: &[[u32; 2]])
+    requires { ⌜ 2 * length (now rows) ≤ length (now part) ⌝ }
+    ensures { λ r. ⌜ now (part .exit) ≡ joined rowWords (map rowOf (now (rows .entry))) ++ drop (2 * length (now (rows .entry))) (now (part .entry)) ⌝ }
+{
+    for i in 0..rows.len() {
+        part[2 * i] = rows[i][0];
+        part[2 * i + 1] = rows[i][1];
+    }
+}
+
+// Gives the object that the part starts with other rows; the words past them become 0.
+fn write_object(part: &mut [u32], rows: &[[u32; 2]])
+    requires { ⌜ (130 ≤ length (now part)) × (length (now rows) ≤ 64) ⌝ }
+    ensures { λ r. ⌜ now (part .exit) ≡ wordsOf (word (now (part .entry)) 0) (map rowOf (now (rows .entry))) ++ drop 130 (now (part .entry)) ⌝ }
+{
+    let count = rows.len();
+    part[1] = count as u32;
+    write_rows(&mut part[2..], rows);
+    let free = 2 + 2 * count;
+    layout::clear(&mut part[free..layout::OBJECT]);
+}
+
+// Folds an operation into the object that the part starts with.
+fn fold_part(part: &mut [u32], operation: Operation)
+    requires { ⌜ (130 ≤ length (now part)) × (word (now part) 1 ≤ 64) × (length (nextOf operation (rowsIn (now part))) ≤ 64) ⌝ }
+    ensures { λ r. ⌜ now (part .exit) ≡ wordsOf (word (now (part .entry)) 0) (nextOf operation (rowsIn (now (part .entry)))) ++ drop 130 (now (part .entry)) ⌝ }
+{
+    let count = layout::wide(part[1]);
+    let rows = layout::copied(&part[2..], count);
+    let next = replay::next_count(&rows, count, operation);
+    let rows = replay::next_rows(rows, count, operation);
+    write_object(part, &rows[..next]);
+}
+
+pub fn fold(book: &mut [u32], object: usize, operation: Operation)
+    requires { ⌜ Packed base (now book) × (object < 16) × (length (nextOf operation (rowsAt (now book) object)) ≤ 64) ⌝ }
+    ensures { λ r. ⌜ ((o : model.Operation) → operationOf operation ≡ some o → now (book .exit) ≡ encode base (folded object o (decode base (now (book .entry))))) ⌝ }
+{
+    let start = layout::FIRST_OBJECT + layout::OBJECT * object;
+    fold_part(&mut book[start..], operation);
 }

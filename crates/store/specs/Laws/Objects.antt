@@ -13,15 +13,15 @@ use Rattle.store.specs.Laws.Lists.{tabulate-zero, length-tabulate, all-o
 use Rattle.store.specs.Laws.Words.{each, all-any, padded-length, joined-length, joined-same, padded-same}
 use Rattle.store.specs.Laws.Encoding.{ObjectsLaid}
 
-rows-length : (rs : List Row) → length (joined rowWords rs) ≡ 2 * length rs
+pub rows-length : (rs : List Row) → length (joined rowWords rs) ≡ 2 * length rs
 rows-length rs = joined-length rowWords 2 rs (all-any (λ (r : Row). length (rowWords r) ≡ 2) (λ r. refl) rs)
 
-object-length : (x : Object) → ObjectFits x → length (objectWords x) ≡ 130
+pub object-length : (x : Object) → ObjectFits x → length (objectWords x) ≡ 130
 object-length x fits = omega (arith, padded-length 128 (joined rowWords (x .rows)) (omega (arith, rows-length (x .rows), fits .rows)))
 
 -- ---- Read and written again
 
-kind-written : (n : ℕ) → n ≤ 3 → kindWord (readKind n) ≡ n
+pub kind-written : (n : ℕ) → n ≤ 3 → kindWord (readKind n) ≡ n
 kind-written n l = each (λ (i : ℕ). kindWord (readKind i) ≡ i) 4 (refl, (refl, (refl, (refl, tt)))) n (omega arith)
 
 module _ (w : List ℕ) (o : ℕ) (packed : ObjectPacked w o) where
