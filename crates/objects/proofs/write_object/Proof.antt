@@ -1,87 +1,61 @@
+-- `objects::write_object`: number and rows are written, and what is past them is cleared.
+use Prim.Native.Nat.{_≤_}
+use mathlib.Core.Path.{_∙_}
+use mathlib.Core.List.{map}
+use native.Mathlib.Omega.{arith}
 use borrow.Author.Needs.{needs}
+use lib.ListN.{length, length-take, length-drop, length-map, length-set}
+use Rattle.replay.specs.Replay.{rowOf}
+use Rattle.store.specs.Layout.{joined, rowWords}
+use Rattle.objects.specs.Laws.Writing.{counted-written, object-written}
 use Rattle.objects.proofs.write_object.Statement.{statement}
 use Rattle.objects.proofs.write_object.Tie as tie
-use Rattle.objects.proofs.write_object.Reads as reads
-use Rattle.objects.proofs.write_object.Lts as lts
-use Rattle.layout.proofs.clear.Reads as clear-reads
-use Rattle.objects.proofs.write_rows.Reads as write-rows-reads
 
--- src/lib.rt:137:15
-cast-part : tie.Need-cast-part
-cast-part c = search needs
-
--- src/lib.rt:137:5
-slice-write-part : tie.Need-slice-write-part
-slice-write-part c = search needs
-
--- src/lib.rt:138:16
 sub-write-rows : tie.Need-sub-write-rows
-sub-write-rows c = ?
+sub-write-rows c = simp length-set (omega arith)
 
--- src/lib.rt:138:16
 part-write-rows-start : tie.Need-part-write-rows-start
-part-write-rows-start c = ?
+part-write-rows-start c = simp length-set (omega arith)
 
--- src/lib.rt:138:16
-part-write-rows-end : tie.Need-part-write-rows-end
-part-write-rows-end c = search needs
-
--- src/lib.rt:138:5
 write-rows-requires : tie.Need-write-rows-requires
-write-rows-requires c κs = ?
+write-rows-requires c κs = simp (length-take, length-drop, length-set) (omega arith)
 
--- src/lib.rt:139:20
-mul-free : tie.Need-mul-free
-mul-free c = search needs
-
--- src/lib.rt:139:16
-add-free : tie.Need-add-free
-add-free c = search needs
-
--- src/lib.rt:140:19
-mul-clear : tie.Need-mul-clear
-mul-clear c = search needs
-
--- src/lib.rt:140:19
-sub-clear : tie.Need-sub-clear
-sub-clear c = search needs
-
--- src/lib.rt:140:19
-part-clear-start : tie.Need-part-clear-start
-part-clear-start c = search needs
-
--- src/lib.rt:140:19
 part-clear-end : tie.Need-part-clear-end
-part-clear-end c = ?
+part-clear-end c =
+    let start = c .before .before .before .before .before in
+    omega (arith, c .before .part .given .1, length-set (start .args .part .now) 1 (length (start .args .rows .now)), start .pre .0)
 
--- src/lib.rt:140:5
-clear-requires : tie.Need-clear-requires
-clear-requires c κs = search needs
-
--- src/lib.rt:132:1
 same-length : tie.Need-same-length
-same-length c = ?
+same-length c =
+    let start = c .before .before .before .before .before .before .before .before .before in
+    c .before .part2 .given .1 ∙ c .before .before .before .before .before .part .given .1 ∙ length-set (start .args .part .now) 1 (length (start .args .rows .now))
 
--- src/lib.rt:132:1
 returns : tie.Need-returns
-returns c = ?
+returns c =
+    let start = c .before .before .before .before .before .before .before .before .before in
+    let part = start .args .part .now in
+    let rows = start .args .rows .now in
+    let long : 130 ≤ length part = start .pre .0 in
+    object-written part (map rowOf rows) (length rows) long (length-map rows rowOf) (start .pre .1) _
+    (counted-written part (length rows) (joined rowWords (map rowOf rows)) _ (omega arith) (c .before .before .before .before .before .before .write-rows .ensures))
+    _ (c .before .before .clear .ensures)
 
 pub write-object-spec : {M : Type 1} → statement M
 write-object-spec =
     tie.close
     (tie.spec
-    cast-part
-    slice-write-part
+    (λ c. search needs)
+    (λ c. search needs)
     sub-write-rows
     part-write-rows-start
-    part-write-rows-end
+    (λ c. search needs)
     write-rows-requires
-    mul-free
-    add-free
-    mul-clear
-    sub-clear
-    part-clear-start
+    (λ c. search needs)
+    (λ c. search needs)
+    (λ c. search needs)
+    (λ c. search needs)
+    (λ c. search needs)
     part-clear-end
-    clear-requires
+    (λ c κs. search needs)
     same-length
     returns)
