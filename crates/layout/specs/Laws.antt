@@ -82,13 +82,13 @@ pub tail-part : (w : List ℕ) (a : ℕ) → take (length w - a) (drop a w) ≡ 
 tail-part w a = take-all (length w - a) (drop a w) (rw length-drop (omega arith))
 
 -- An object's rows begin the part that starts at its first row.
-pub rows-in : (w : List ℕ) (o n : ℕ) (copy : List (List ℕ)) → n ≡ word w (objectStart o + 1)
-    → Copied (take (length w - (objectStart o + 2)) (drop (objectStart o + 2) w)) copy n → rowsOf copy (word w (objectStart o + 1)) ≡ rowsAt w o
-rows-in w o n copy count c =
-    let start = objectStart o + 2 in
-    rw (← count)
-    (c ∙ ap (λ (part : List ℕ). tabulate n (rowIn part)) (tail-part w start)
-    ∙ tabulate-same n (rowIn (drop start w)) (rowAt w o) (λ i l. ap₂ row (at (2 * i)) (at (2 * i + 1) ∙ ap (word w) (omega arith))))
+pub rows-from : (w : List ℕ) (o n : ℕ) → tabulate n (rowIn (drop (objectStart o + 2) w)) ≡ tabulate n (rowAt w o)
+rows-from w o n =
+    tabulate-same n (rowIn (drop (objectStart o + 2) w)) (rowAt w o) (λ i l. ap₂ row (at (2 * i)) (at (2 * i + 1) ∙ ap (word w) (omega arith)))
   where
     at : (i : ℕ) → word (drop (objectStart o + 2) w) i ≡ word w (objectStart o + 2 + i)
     at i = getD-drop (objectStart o + 2) w i 0
+
+pub rows-copied : (w : List ℕ) (o n : ℕ) (copy : List (List ℕ)) → n ≡ word w (objectStart o + 1)
+    → Copied (take (length w - (objectStart o + 2)) (drop (objectStart o + 2) w)) copy n → rowsOf copy (word w (objectStart o + 1)) ≡ rowsAt w o
+rows-copied w o n copy count c = rw (← count) (c ∙ ap (λ (part : List ℕ). tabulate n (rowIn part)) (tail-part w (objectStart o + 2)) ∙ rows-from w o n)

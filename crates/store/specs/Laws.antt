@@ -3,3 +3,4 @@ pub mod Reading
 pub mod Words
 pub mod Encoding
 pub mod Objects
+pub mod Empty

@@ -1,56 +1,29 @@
+-- `objects::fold`: the part that starts at the object is folded, and the rest of the book stays.
 use borrow.Author.Needs.{needs}
+use Rattle.objects.specs.Laws.Folding.{part-ready, book-folded}
 use Rattle.objects.proofs.fold.Statement.{statement}
 use Rattle.objects.proofs.fold.Tie as tie
-use Rattle.objects.proofs.fold.Reads as reads
-use Rattle.objects.proofs.fold.Lts as lts
-use Rattle.objects.proofs.fold_part.Reads as fold-part-reads
 
--- src/lib.rt:159:40
-mul-start : tie.Need-mul-start
-mul-start c = search needs
-
--- src/lib.rt:159:17
-add-start : tie.Need-add-start
-add-start c = search needs
-
--- src/lib.rt:160:15
-mul-fold-part : tie.Need-mul-fold-part
-mul-fold-part c = search needs
-
--- src/lib.rt:160:15
-sub-fold-part : tie.Need-sub-fold-part
-sub-fold-part c = search needs
-
--- src/lib.rt:160:15
-part-fold-part-start : tie.Need-part-fold-part-start
-part-fold-part-start c = search needs
-
--- src/lib.rt:160:15
-part-fold-part-end : tie.Need-part-fold-part-end
-part-fold-part-end c = search needs
-
--- src/lib.rt:160:5
 fold-part-requires : tie.Need-fold-part-requires
-fold-part-requires c κs = ?
+fold-part-requires c κs =
+    let start = c .before .before in
+    part-ready (start .args .book .now) (start .args .object) (start .pre .0) (start .pre .1) (start .args .operation) (start .pre .2)
 
--- src/lib.rt:155:1
-same-length : tie.Need-same-length
-same-length c = search needs
-
--- src/lib.rt:155:1
 returns : tie.Need-returns
-returns c = ?
+returns c o named =
+    let start = c .before .before .before .before .before in
+    book-folded (start .args .book .now) (start .pre .0) (start .args .object) (start .pre .1) (start .args .operation) o named _ (c .before .before .fold-part .ensures)
 
 pub fold-spec : {M : Type 1} → statement M
 fold-spec =
     tie.close
     (tie.spec
-    mul-start
-    add-start
-    mul-fold-part
-    sub-fold-part
-    part-fold-part-start
-    part-fold-part-end
+    (λ c. search needs)
+    (λ c. search needs)
+    (λ c. search needs)
+    (λ c. search needs)
+    (λ c. search needs)
+    (λ c. search needs)
     fold-part-requires
-    same-length
+    (λ c. search needs)
     returns)

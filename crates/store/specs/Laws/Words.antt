@@ -1,9 +1,9 @@
--- Words of tables: rows of k words each, filled up with zeros; by row and place in it.
+-- Words by place: of lists after each other, of zeros, and of tables, whose rows have k words each.
 use Prim.Native.Nat.{ℕ, zero, suc, _+_, _-_, _*_, _/_, _%_, _≤_, _<_}
-use mathlib.Core.Path.{_≡_, refl, sym, ap, _∙_, subst}
+use mathlib.Core.Path.{_≡_, sym, ap, _∙_, subst}
 use mathlib.Core.Bool.{true, false}
 use mathlib.Core.List.{List, [], _∷_, _++_}
-use native.Mathlib.Nat.{not-suc-le-zero, mul-zero, mul-suc, zero-mul, div-add-mod, mod-lt, lt-of-mul-lt-mul-left}
+use native.Mathlib.Nat.{not-suc-le-zero, mul-zero, mul-suc, mul-le-mul-left, zero-mul, div-add-mod, mod-lt, lt-of-mul-lt-mul-left}
 use native.Mathlib.Omega.{arith}
 use borrow.Author.Tests.{ltb-true, ltb-false}
 use lib.Dec.{ltb}
@@ -81,13 +81,18 @@ module _ {A : Type 0} (f : A → List ℕ) (k : ℕ) where
       let e : k * suc i + j ≡ k + (k * i + j) = omega (arith, mul-suc k i) in
       ap (word (f x ++ joined f xs)) e ∙ word-after (f x) (joined f xs) k (k * i + j) (r .0) ∙ joined-word xs (r .1) d i j (omega arith) m
 
+  pub padded-row : (size : ℕ) (xs : List A) → Rows xs → (d : A) (i j : ℕ) → i < length xs → j < k
+      → word (padded size (joined f xs)) (k * i + j) ≡ word (f (getD xs i d)) j
+  padded-row size xs r d i j l m =
+      padded-word size (joined f xs) (k * i + j) (omega (arith, joined-length xs r, mul-suc k i, mul-le-mul-left k l)) ∙ joined-word xs r d i j l m
+
   -- A place in rows is a place in one of them.
   by-row : (P : ℕ → Type 0) (n : ℕ) → ((i j : ℕ) → i < n → j < k → P (k * i + j)) → (p : ℕ) → p < k * n → P p
   by-row P n h p l =
       let positive : 0 < k = below 0 k (λ m. m) (λ (m : k ≤ 0). let e : k ≡ 0 = omega arith in absurd (omega (arith, ap (λ (j : ℕ). j * n) e, zero-mul n))) in
       subst P (div-add-mod p k) (h (p / k) (p % k) (lt-of-mul-lt-mul-left k (omega (arith, div-add-mod p k))) (mod-lt p positive))
 
-  -- Rows whose words are those of a list are that list.
+  -- Rows that have certain words, each at each place, have them throughout.
   pub joined-same : (n : ℕ) (g : ℕ → A) (ws : ℕ → ℕ) → ((i : ℕ) → i < n → length (f (g i)) ≡ k)
       → ((i j : ℕ) → i < n → j < k → word (f (g i)) j ≡ ws (k * i + j)) → (p : ℕ) → p < k * n → word (joined f (tabulate n g)) p ≡ ws p
   joined-same n g ws r h =
@@ -95,7 +100,7 @@ module _ {A : Type 0} (f : A → List ℕ) (k : ℕ) where
       (λ (i j : ℕ) (l : i < n) (m : j < k). joined-word (tabulate n g) (all-of (λ (x : A). length (f x) ≡ k) n g r) (g 0) i j (rw length-tabulate l) m
       ∙ ap (λ (x : A). word (f x) j) (getD-tabulate n g i (g 0) l) ∙ h i j l m)
 
-  -- So too where zeros fill them up.
+  -- So too with zeros after them.
   pub padded-same : (size n : ℕ) (g : ℕ → A) (ws : ℕ → ℕ) → ((i : ℕ) → i < n → length (f (g i)) ≡ k)
       → ((i j : ℕ) → i < n → j < k → word (f (g i)) j ≡ ws (k * i + j)) → ((p : ℕ) → k * n ≤ p → p < size → ws p ≡ 0)
       → (p : ℕ) → p < size → word (padded size (joined f (tabulate n g))) p ≡ ws p
