@@ -1,5 +1,5 @@
 -- Laws for the functions of `layout`.
-use Prim.Native.Nat.{ℕ, suc, _+_, _-_, _*_, _≤_, _<_}
+use Prim.Native.Nat.{ℕ, _+_, _-_, _*_, _≤_, _<_}
 use mathlib.Core.Path.{_≡_, refl, sym, ap, ap₂, _∙_, subst}
 use mathlib.Core.Bool.{true, false}
 use mathlib.Core.Logic.{_↔_}
@@ -8,7 +8,7 @@ use native.Mathlib.Nat.{not-suc-le-zero}
 use native.Mathlib.Numerals.{add-one}
 use native.Mathlib.Omega.{arith}
 use borrow.Author.Tests.{ltb-true, ltb-false, eqb-true, eq-eqb}
-use lib.Bits.{bitOr, bitAnd, and-le-l, and-le-r, or-add-and, or-self}
+use lib.Bits.{bitOr, and-le-l, and-le-r, or-add-and, or-self}
 use lib.Dec.{eqb, ltb}
 use lib.ListN.{length, set, take, drop, replicate, length-drop, List·getD-eq-default}
 use lib.Seq.{take-suc-set, getD-drop, take-all, drop-length}

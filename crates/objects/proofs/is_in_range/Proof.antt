@@ -9,7 +9,7 @@ returns : tie.Need-returns
 returns c = none-range _ _ (c .match .keys1)
 
 returns-2 : tie.Need-returns-2
-returns-2 c = some-range _ _ (c .before .match .rest .1) (c .if1 .taken)
+returns-2 c = some-range _ _ (c .before .match .rest .1) (omega arith)
 
 returns-3 : tie.Need-returns-3
 returns-3 c = answer-no (λ r. omega (arith, r .kind, c .if1 .left))

@@ -7,7 +7,7 @@ use mathlib.Core.List.{List}
 use native.Mathlib.Omega.{arith}
 use borrow.Author.Tests.{eqb-true, leb-true, eq-eqb, le-leb}
 use lib.Dec.{eqb, leb}
-use lib.ListN.{length, take, drop, length-take, List·getD-eq-default}
+use lib.ListN.{take, drop, length-take, List·getD-eq-default}
 use lib.Seq.{getD-take, getD-drop}
 use Rattle.store.specs.Layout.{word, objectStart, ObjectPacked}
 use Rattle.store.specs.Laws.Words.{below}

@@ -2,15 +2,15 @@
 use Prim.Native.Nat.{ℕ, suc, _+_, _≤_, _<_}
 use mathlib.Core.Path.{_≡_, ap, sym, _∙_, subst}
 use mathlib.Core.Logic.{_⊎_, ⊎-elim, _↔_, Iff·trans}
-use mathlib.Core.Option.{none, some, Option·none-ne-some}
+use mathlib.Core.Option.{some, Option·none-ne-some}
 use mathlib.Core.List.{List, [], _∷_}
 use native.Mathlib.Numerals.{add-one}
 use native.Mathlib.Omega.{arith}
-use lib.ListN.{length, drop, drop-of-length-le}
+use lib.ListN.{drop, drop-of-length-le}
 use lib.Seq.{drop-cons}
 use Rattle.operations.specs.Operations.{Kind, Stack, Set, Table, Row, reduceKey, All, NoValue, Reduced, WellFormed}
 use Rattle.operations.specs.Laws.Cases.{all-map}
-use Rattle.store.specs.Store.{Object, objectOf}
+use Rattle.store.specs.Store.{Object}
 use Rattle.store.specs.Layout.{word, tabulate, base, decode, readKind, objectStart, rowsAt, ObjectPacked}
 use Rattle.store.specs.Soundness.{RowsFormed}
 use Rattle.store.specs.Laws.Lists.{length-tabulate, getD-tabulate}
@@ -20,7 +20,7 @@ use Rattle.objects.specs.Objects.{Keyed, Formed}
 
 -- ---- Neighbours
 
-pub below-reduced : (k : ℕ) → k < 16_777_216 → Reduced reduceKey k
+below-reduced : (k : ℕ) → k < 16_777_216 → Reduced reduceKey k
 unfolding reduceKey
 below-reduced k l = omega arith
 
@@ -88,11 +88,11 @@ module _ (n : ℕ) (f : ℕ → Row) where
 
 -- ---- By kind
 
-module _ (w : List ℕ) (o k : ℕ) (here : k ≡ word w (objectStart o)) where
+module _ (w : List ℕ) (o k : ℕ) (number : k ≡ word w (objectStart o)) where
   of-kind : (kind : Kind) → readKind k ≡ some kind → WellFormed reduceKey kind (rowsAt w o) ↔ Formed w o
   of-kind kind e = (
     λ h other f. let same : kind ≡ other = cc in subst (λ (q : Kind). WellFormed reduceKey q (rowsAt w o)) same h,
-    λ h. h kind (ap readKind (sym here) ∙ e),
+    λ h. h kind (ap readKind (sym number) ∙ e),
   )
 
   pub as-stack : k ≡ 1 → All NoValue (rowsAt w o) ↔ Formed w o
@@ -106,7 +106,7 @@ module _ (w : List ℕ) (o k : ℕ) (here : k ≡ word w (objectStart o)) where
 
   pub as-none : ObjectPacked w o → (k ≡ 1 → ⊥) → (k ≡ 2 → ⊥) → (k ≡ 3 → ⊥) → Formed w o
   as-none packed stack set table kind f =
-      let zero : word w (objectStart o) ≡ 0 = omega (arith, here, packed .kind, stack, set, table) in
+      let zero : word w (objectStart o) ≡ 0 = omega (arith, number, packed .kind, stack, set, table) in
       absurd (Option·none-ne-some kind (sym (ap readKind zero) ∙ f))
 
 pub all-formed : (w : List ℕ) → ((o : ℕ) → o < 16 → Formed w o) ↔ RowsFormed base (decode base w)

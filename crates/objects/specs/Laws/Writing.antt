@@ -1,12 +1,12 @@
 -- Rows written as words, and the part of a book that an operation is folded into.
-use Prim.Native.Nat.{ℕ, suc, _+_, _-_, _*_, _≤_, _<_}
-use mathlib.Core.Path.{_≡_, refl, sym, ap, ap₂, _∙_, subst}
+use Prim.Native.Nat.{ℕ, _+_, _-_, _*_, _≤_, _<_}
+use mathlib.Core.Path.{_≡_, refl, sym, ap, ap₂, _∙_}
 use mathlib.Core.List.{List, [], _∷_, _++_, map, map-append, append-assoc, append-nil}
 use native.Mathlib.Numerals.{add-one}
 use native.Mathlib.Omega.{arith}
 use borrow.Rule.Slice.PartMut.{midOf, putMid}
 use lib.ListN.{length, getD, set, take, drop, replicate, length-append, length-drop, length-map}
-use lib.Seq.{length-take-le, take-suc, take-length, drop-length, append-snoc, set-at, take-at, drop-at, drop-drop, sets, sets-eq}
+use lib.Seq.{length-take-le, take-suc, take-length, drop-length, append-snoc, set-at, take-at, drop-at, drop-drop}
 use Rattle.operations.specs.Operations.{Row}
 use Rattle.replay.specs.Replay.{rowOf, rowsOf}
 use Rattle.store.specs.Layout.{word, joined, rowWords}
