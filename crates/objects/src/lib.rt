@@ -46,6 +46,7 @@ fn is_packed(book: &[u32], object: usize) -> bool
     layout::is_zero(&book[free..end])
 }
 
+// Ranges and zeros of the objects.
 pub fn packed(book: &[u32]) -> bool
     requires { ⌜ length (now book) ≡ 3937 ⌝ }
     ensures { λ r. ⌜ (r ≡ true) ↔ ((o : ℕ) → o < 16 → ObjectPacked (now (book .entry)) o) ⌝ }
@@ -105,6 +106,7 @@ fn is_formed(book: &[u32], object: usize) -> bool
     }
 }
 
+// The rows of each object are of its kind's form.
 pub fn formed(book: &[u32]) -> bool
     requires { ⌜ (length (now book) ≡ 3937) × ((o : ℕ) → o < 16 → ObjectPacked (now book) o) ⌝ }
     ensures { λ r. ⌜ (r ≡ true) ↔ RowsFormed base (decode base (now (book .entry))) ⌝ }
@@ -152,6 +154,7 @@ fn fold_part(part: &mut [u32], operation: Operation)
     write_object(part, &rows[..next]);
 }
 
+// Folds an operation into an object. No word before the object's is lent.
 pub fn fold(book: &mut [u32], object: usize, operation: Operation)
     requires { ⌜ Packed base (now book) × (object < 16) × (length (nextOf operation (rowsAt (now book) object)) ≤ 64) ⌝ }
     ensures { λ r. ⌜ ((o : model.Operation) → operationOf operation ≡ some o → now (book .exit) ≡ encode base (folded object o (decode base (now (book .entry))))) ⌝ }

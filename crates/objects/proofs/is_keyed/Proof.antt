@@ -23,7 +23,7 @@ returns : tie.Need-returns Inv-loop μ-loop
 returns c =
     let at-loop = c .before .before .before in
     answer-no (decides-no _ _ (at-loop .loop .i) _ (omega (arith, c .before .before .loop-test .taken, at-loop .before .row-count .ensures))
-    (⊎-elim (λ w. inl (w .taken)) (λ w. inr (leb-true _ _ (w .1 .taken))) (c .if1 .came)) (at-loop .loop .inv .1))
+    (⊎-elim (λ w. inl (w .taken)) (λ w. inr (omega (arith, leb-true))) (c .if1 .came)) (at-loop .loop .inv .1))
 
 add-least : tie.Need-add-least Inv-loop μ-loop
 add-least c = omega (arith, leb-false)
@@ -31,7 +31,7 @@ add-least c = omega (arith, leb-false)
 loop-again : tie.Need-loop-again Inv-loop μ-loop
 loop-again c =
     let at-loop = c .before .before .before .before in
-    (search needs, decides-next _ _ (at-loop .loop .i) _ (omega (arith, c .before .before .before .loop-test .taken, at-loop .before .row-count .ensures)) (c .before .if1 .left) (leb-false _ _ (c .if2 .left)) (at-loop .loop .inv .1))
+    (search needs, decides-next _ _ (at-loop .loop .i) _ (omega (arith, c .before .before .before .loop-test .taken, at-loop .before .row-count .ensures)) (c .before .if1 .left) (omega (arith, leb-false)) (at-loop .loop .inv .1))
 
 returns-2 : tie.Need-returns-2 Inv-loop μ-loop
 returns-2 c = answer-yes (decides-all _ _ (c .before .loop .i) _ (omega (arith, c .loop-test .left, c .before .before .row-count .ensures)) (c .before .loop .inv .1))

@@ -1,6 +1,6 @@
 -- `objects::write_object`: number and rows are written, and what is past them is cleared.
-use Prim.Native.Nat.{_≤_}
-use mathlib.Core.Path.{_∙_}
+use Prim.Native.Nat.{ℕ, _≤_}
+use mathlib.Core.Path.{sym, _∙_, subst}
 use mathlib.Core.List.{map}
 use native.Mathlib.Omega.{arith}
 use borrow.Author.Needs.{needs}
@@ -22,13 +22,10 @@ write-rows-requires c κs = simp (length-take, length-drop, length-set) (omega a
 
 part-clear-end : tie.Need-part-clear-end
 part-clear-end c =
-    let start = c .before .before .before .before .before in
-    omega (arith, c .before .part .given .1, length-set (start .args .part .now) 1 (length (start .args .rows .now)), start .pre .0)
+    subst (λ (n : ℕ). 130 ≤ n) (sym (c .before .part .given .1)) (simp length-set (c .before .before .before .before .before .pre .0))
 
 same-length : tie.Need-same-length
-same-length c =
-    let start = c .before .before .before .before .before .before .before .before .before in
-    c .before .part2 .given .1 ∙ c .before .before .before .before .before .part .given .1 ∙ length-set (start .args .part .now) 1 (length (start .args .rows .now))
+same-length c = c .before .part2 .given .1 ∙ c .before .before .before .before .before .part .given .1 ∙ simp length-set
 
 returns : tie.Need-returns
 returns c =
