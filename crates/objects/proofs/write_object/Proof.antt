@@ -22,7 +22,8 @@ write-rows-requires c κs = simp (length-take, length-drop, length-set) (omega a
 
 part-clear-end : tie.Need-part-clear-end
 part-clear-end c =
-    subst (λ (n : ℕ). 130 ≤ n) (sym (c .before .part .given .1)) (simp length-set (c .before .before .before .before .before .pre .0))
+    let long = subst (λ (n : ℕ). 130 ≤ n) (sym (c .before .part .given .1)) (simp length-set (c .before .before .before .before .before .pre .0)) in
+    omega (arith, long)
 
 same-length : tie.Need-same-length
 same-length c = c .before .part2 .given .1 ∙ c .before .before .before .before .before .part .given .1 ∙ simp length-set
