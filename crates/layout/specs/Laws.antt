@@ -1,22 +1,23 @@
 -- Laws for the functions of `layout`.
-use Prim.Native.Nat.{ℕ, suc, _+_, _≤_, _<_}
+use Prim.Native.Nat.{ℕ, _+_, _-_, _*_, _≤_, _<_}
 use mathlib.Core.Path.{_≡_, refl, sym, ap, ap₂, _∙_, subst}
 use mathlib.Core.Bool.{true, false}
 use mathlib.Core.Logic.{_↔_}
-use mathlib.Core.List.{List, [], _∷_, _++_, map, map-append}
+use mathlib.Core.List.{List, [], _∷_, _++_, map, map-append, append-nil}
 use native.Mathlib.Nat.{not-suc-le-zero}
 use native.Mathlib.Numerals.{add-one}
 use native.Mathlib.Omega.{arith}
 use borrow.Author.Tests.{ltb-true, ltb-false, eqb-true, eq-eqb}
-use lib.Bits.{bitOr, bitAnd, and-le-l, and-le-r, or-add-and, or-self}
+use lib.Bits.{bitOr, and-le-l, and-le-r, or-add-and, or-self}
 use lib.Dec.{eqb, ltb}
-use lib.ListN.{length, set, take, List·getD-eq-default}
-use lib.Seq.{take-suc-set}
-use Rattle.operations.specs.Operations.{Row}
+use lib.ListN.{length, set, take, drop, replicate, length-drop, List·getD-eq-default}
+use lib.Seq.{take-suc-set, getD-drop, take-all, drop-length}
+use Rattle.operations.specs.Operations.{Row, row}
 use Rattle.operations.specs.Laws.Cases.{split, same}
 use Rattle.replay.specs.Replay.{rowOf, rowsOf}
-use Rattle.store.specs.Layout.{word, tabulate, rowAt}
-use Rattle.store.specs.Laws.Lists.{tabulate-snoc, tabulate-zero}
+use Rattle.store.specs.Layout.{word, tabulate, objectStart, rowAt, rowsAt}
+use Rattle.store.specs.Laws.Lists.{tabulate-snoc, tabulate-zero, tabulate-same}
+use Rattle.layout.specs.Rows.{rowIn}
 
 -- ---- Zeros
 
@@ -53,21 +54,41 @@ seen-all w i seen l s = (
   λ h. eq-eqb seen 0 (s .none h),
 )
 
+-- Zeros written up to the end.
+pub filled : (d : List ℕ) (i : ℕ) → i ≡ length d → replicate i 0 ++ drop i d ≡ replicate (length d) 0
+filled d i e = rw (e, drop-length d) (append-nil {A = ℕ} (replicate (length d) 0))
+
 -- ---- Rows
 
--- The first i pairs of the copy are the object's first i rows.
-abbrev pub Copied : List ℕ → ℕ → List (List ℕ) → ℕ → Type 0
-Copied w o copy i = rowsOf copy i ≡ tabulate i (rowAt w o)
+-- The first i pairs of the copy are the first i rows.
+abbrev pub Copied : List ℕ → List (List ℕ) → ℕ → Type 0
+Copied w copy i = rowsOf copy i ≡ tabulate i (rowIn w)
 
-pub copied-start : (w : List ℕ) (o : ℕ) (copy : List (List ℕ)) → Copied w o copy 0
-copied-start w o copy = sym (tabulate-zero (rowAt w o))
+pub copied-start : (w : List ℕ) (copy : List (List ℕ)) → Copied w copy 0
+copied-start w copy = sym (tabulate-zero (rowIn w))
 
-pub copied-next : (w : List ℕ) (o i : ℕ) (copy : List (List ℕ)) (pair : List ℕ) → i < length copy → rowOf pair ≡ rowAt w o i → Copied w o copy i
-    → Copied w o (set copy i pair) (i + 1)
-copied-next w o i copy pair l e c =
+pub copied-next : (w : List ℕ) (i : ℕ) (copy : List (List ℕ)) (pair : List ℕ) → i < length copy → rowOf pair ≡ rowIn w i → Copied w copy i
+    → Copied w (set copy i pair) (i + 1)
+copied-next w i copy pair l e c =
     rw (add-one i)
     (ap (map rowOf) (take-suc-set copy i pair l) ∙ map-append rowOf (take i copy) (pair ∷ [])
-    ∙ ap₂ (λ (rs : List Row) (r : Row). rs ++ (r ∷ [])) c e ∙ sym (tabulate-snoc i (rowAt w o)))
+    ∙ ap₂ (λ (rs : List Row) (r : Row). rs ++ (r ∷ [])) c e ∙ sym (tabulate-snoc i (rowIn w)))
 
-pub copied-all : (w : List ℕ) (o i n : ℕ) (copy : List (List ℕ)) → Copied w o copy i → i ≡ n → Copied w o copy n
-copied-all w o i n copy c e = subst (Copied w o copy) e c
+pub copied-all : (w : List ℕ) (i n : ℕ) (copy : List (List ℕ)) → Copied w copy i → i ≡ n → Copied w copy n
+copied-all w i n copy c e = subst (Copied w copy) e c
+
+-- A part that goes to the end.
+pub tail-part : (w : List ℕ) (a : ℕ) → take (length w - a) (drop a w) ≡ drop a w
+tail-part w a = take-all (length w - a) (drop a w) (rw length-drop (omega arith))
+
+-- An object's rows begin the part that starts at its first row.
+pub rows-from : (w : List ℕ) (o n : ℕ) → tabulate n (rowIn (drop (objectStart o + 2) w)) ≡ tabulate n (rowAt w o)
+rows-from w o n =
+    tabulate-same n (rowIn (drop (objectStart o + 2) w)) (rowAt w o) (λ i l. ap₂ row (at (2 * i)) (at (2 * i + 1) ∙ ap (word w) (omega arith)))
+  where
+    at : (i : ℕ) → word (drop (objectStart o + 2) w) i ≡ word w (objectStart o + 2 + i)
+    at i = getD-drop (objectStart o + 2) w i 0
+
+pub rows-copied : (w : List ℕ) (o n : ℕ) (copy : List (List ℕ)) → n ≡ word w (objectStart o + 1)
+    → Copied (take (length w - (objectStart o + 2)) (drop (objectStart o + 2) w)) copy n → rowsOf copy (word w (objectStart o + 1)) ≡ rowsAt w o
+rows-copied w o n copy count c = rw (← count) (c ∙ ap (λ (part : List ℕ). tabulate n (rowIn part)) (tail-part w (objectStart o + 2)) ∙ rows-from w o n)

@@ -4,10 +4,11 @@ use operations::Reply;
 ghost use mathlib.Core.Path.{_≡_};
 ghost use mathlib.Core.Bool.{true};
 ghost use mathlib.Core.Logic.{_↔_};
-ghost use Prim.Native.Nat.{ℕ, _+_, _<_, _≤_};
-ghost use lib.ListN.{length};
-ghost use Rattle.store.specs.Layout.{word, entryStart, objectStart, rowsAt};
+ghost use Prim.Native.Nat.{ℕ, _+_, _*_, _<_, _≤_};
+ghost use lib.ListN.{length, replicate};
+ghost use Rattle.store.specs.Layout.{word, tabulate, entryStart, objectStart, rowsAt};
 ghost use Rattle.replay.specs.Replay.{rowsOf};
+ghost use Rattle.layout.specs.Rows.{rowIn};
 
 pub const WORDS: usize = 3937;
 
@@ -27,7 +28,7 @@ pub const FIRST_OBJECT: usize = 65;
 
 pub const OBJECT: usize = 130;
 
-fn wide(x: u32) -> usize
+pub fn wide(x: u32) -> usize
     ensures { λ r. ⌜ r ≡ x ⌝ }
 {
     x as usize
@@ -104,18 +105,33 @@ pub fn is_zero(part: &[u32]) -> bool
     seen == 0
 }
 
-// A copy of an object's rows, for replay.
+// Sets all words to 0.
+pub fn clear(part: &mut [u32])
+    ensures { λ r. ⌜ now (part .exit) ≡ replicate (length (now (part .entry))) 0 ⌝ }
+{
+    for i in 0..part.len() {
+        part[i] = 0;
+    }
+}
+
+// A copy of the rows that the words begin with, for replay.
+pub fn copied(words: &[u32], count: usize) -> [[u32; 2]; 64]
+    requires { ⌜ (count ≤ 64) × (2 * count ≤ length (now words)) ⌝ }
+    ensures { λ r. ⌜ rowsOf r count ≡ tabulate count (rowIn (now (words .entry))) ⌝ }
+{
+    let mut rows = [[0u32; 2]; 64];
+    for i in 0..count {
+        rows[i] = [words[2 * i], words[2 * i + 1]];
+    }
+    rows
+}
+
+// A copy of an object's rows.
 pub fn copied_rows(book: &[u32], object: usize) -> [[u32; 2]; 64]
     requires { ⌜ (length (now book) ≡ 3937) × (object < 16) × (word (now book) (objectStart object + 1) ≤ 64) ⌝ }
     ensures { λ r. ⌜ rowsOf r (word (now (book .entry)) (objectStart object + 1)) ≡ rowsAt (now (book .entry)) object ⌝ }
 {
     let start = FIRST_OBJECT + OBJECT * object + 2;
     let count = row_count(book, object);
-    let mut rows = [[0u32; 2]; 64];
-    let mut i: usize = 0;
-    while i < count {
-        rows[i] = [book[start + 2 * i], book[start + 2 * i + 1]];
-        i += 1;
-    }
-    rows
+    copied(&book[start..], count)
 }

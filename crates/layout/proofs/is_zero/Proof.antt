@@ -1,6 +1,5 @@
 -- `layout::is_zero`: the union of the words is 0 exactly where each is.
 use Prim.Native.Nat.{_-_, _≤_}
-use native.Mathlib.Omega.{arith}
 use borrow.Author.Needs.{needs}
 use lib.ListN.{length}
 use Rattle.layout.specs.Laws.{Seen, seen-start, seen-next, seen-all}

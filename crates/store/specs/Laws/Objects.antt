@@ -16,7 +16,7 @@ use Rattle.store.specs.Laws.Encoding.{Holds, ObjectsLaid}
 rows-rows : (rs : List Row) → Rows rowWords 2 rs
 rows-rows rs = all-any (λ (r : Row). length (rowWords r) ≡ 2) (λ r. refl) rs
 
-rows-length : (rs : List Row) → length (joined rowWords rs) ≡ 2 * length rs
+pub rows-length : (rs : List Row) → length (joined rowWords rs) ≡ 2 * length rs
 rows-length rs = joined-length rowWords 2 rs (rows-rows rs)
 
 object-length : (x : Object) → ObjectFits x → length (objectWords x) ≡ 130
@@ -24,7 +24,7 @@ object-length x fits = omega (arith, padded-length 128 (joined rowWords (x .rows
 
 -- ---- Read and written again
 
-kind-written : (n : ℕ) → n ≤ 3 → kindWord (readKind n) ≡ n
+pub kind-written : (n : ℕ) → n ≤ 3 → kindWord (readKind n) ≡ n
 kind-written n l = each (λ (i : ℕ). kindWord (readKind i) ≡ i) 4 (refl, (refl, (refl, (refl, tt)))) n (omega arith)
 
 module _ (w : List ℕ) (o : ℕ) (packed : ObjectPacked w o) where
@@ -102,7 +102,7 @@ module _ (w : List ℕ) (o : ℕ) (x : Object) (fits : ObjectFits x) (holds : (j
 
 -- ---- The base's objects
 
-objects-rows : (xs : List Object) → All ObjectFits xs → Rows objectWords 130 xs
+pub objects-rows : (xs : List Object) → All ObjectFits xs → Rows objectWords 130 xs
 objects-rows xs fit = all-map {P = ObjectFits} {Q = λ (x : Object). length (objectWords x) ≡ 130} object-length xs fit
 
 module _ (w : List ℕ) (xs : List Object) (size : length xs ≡ 16) (fit : All ObjectFits xs) (holds : Holds base w xs) (o : ℕ) (l : o < 16) where

@@ -1,0 +1,62 @@
+-- `objects::is_packed`: in range, the words past the rows decide.
+use mathlib.Core.Logic.{Iff·trans}
+use native.Mathlib.Omega.{arith}
+use borrow.Author.Needs.{needs}
+use borrow.Author.Tests.{not-true, not-false}
+use Rattle.objects.specs.Objects.{InRange}
+use Rattle.objects.specs.Laws.Tests.{answer-no, refused}
+use Rattle.objects.specs.Laws.Ranges.{packed-range, packed-zeros}
+use Rattle.objects.proofs.is_packed.Statement.{statement}
+use Rattle.objects.proofs.is_packed.Tie as tie
+
+ranged : (c : tie.Else1) → InRange (c .before .before .before .object-kind .result) (c .before .before .row-count .result)
+ranged c = c .before .is-in-range .ensures .0 (not-false _ (c .if1 .left))
+
+returns : tie.Need-returns
+returns c =
+    let start = c .before .before .before .before .before in
+    answer-no (λ p. refused (c .before .is-in-range .ensures) (not-true _ (c .if1 .taken))
+    (packed-range (start .args .book .now) (start .args .object) _ _ (c .before .before .before .object-kind .ensures) (c .before .before .row-count .ensures) p))
+
+mul-free : tie.Need-mul-free
+mul-free c = omega (arith, ranged c .rows)
+
+add-free-2 : tie.Need-add-free-2
+add-free-2 c = omega (arith, ranged c .rows)
+
+mul-is-zero : tie.Need-mul-is-zero
+mul-is-zero c = omega (arith, ranged c .rows)
+
+sub-is-zero : tie.Need-sub-is-zero
+sub-is-zero c = omega (arith, ranged c .rows)
+
+part-is-zero-start : tie.Need-part-is-zero-start
+part-is-zero-start c = omega (arith, ranged c .rows)
+
+returns-2 : tie.Need-returns-2
+returns-2 c =
+    let else = c .before .before in
+    let start = else .before .before .before .before .before in
+    Iff·trans (c .is-zero .ensures)
+    (packed-zeros (start .args .book .now) (start .args .object) _ _ (else .before .before .before .object-kind .ensures) (else .before .before .row-count .ensures) (ranged else))
+
+pub is-packed-spec : {M : Type 1} → statement M
+is-packed-spec =
+    tie.close
+    (tie.spec
+    (λ c κs. search needs)
+    (λ c κs. search needs)
+    (λ c κs. search needs)
+    returns
+    (λ c. search needs)
+    (λ c. search needs)
+    (λ c. search needs)
+    mul-free
+    add-free-2
+    (λ c. search needs)
+    mul-is-zero
+    sub-is-zero
+    part-is-zero-start
+    (λ c. search needs)
+    (λ c κs. search needs)
+    returns-2)

@@ -1,0 +1,5 @@
+pub mod Tests
+pub mod Ranges
+pub mod Rows
+pub mod Writing
+pub mod Folding
