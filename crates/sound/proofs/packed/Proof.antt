@@ -1,0 +1,28 @@
+-- `sound::packed`: the length, the objects and the log.
+use borrow.Author.Needs.{needs}
+use borrow.Author.Tests.{not-true, not-false}
+use Rattle.store.specs.Layout.{base, Packed}
+use Rattle.sound.specs.Laws.{refused, of-another-length, last}
+use Rattle.sound.proofs.packed.Statement.{statement}
+use Rattle.sound.proofs.packed.Tie as tie
+
+returns : tie.Need-returns
+returns c = of-another-length _ (c .if1 .taken)
+
+objects : tie.Need-returns-2
+objects c = refused (c .before .packed .ensures) (not-true _ (c .if2 .taken)) (λ (p : Packed base _). p .objects)
+
+log : tie.Need-returns-3
+log c =
+    last (c .packed2 .ensures)
+    (λ l. record {
+      words = c .before .before .before .if1 .left;
+      entries = l .0;
+      objects = c .before .before .packed .ensures .0 (not-false _ (c .before .if2 .left));
+      asStored = l .1;
+      unused = l .2;
+    })
+    (λ (p : Packed base _). (p .entries, p .asStored, p .unused))
+
+pub packed-spec : {M : Type 1} → statement M
+packed-spec = tie.close (tie.spec returns (λ c κs. search needs) objects (λ c κs. search needs) log)

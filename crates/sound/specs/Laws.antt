@@ -1,0 +1,45 @@
+-- Laws for the functions of `sound`.
+use Prim.Native.Nat.{ℕ}
+use mathlib.Core.Path.{_≡_, sym, _∙_}
+use mathlib.Core.Bool.{Bool, true, false, true≢false, false≢true}
+use mathlib.Core.Logic.{_↔_}
+use mathlib.Core.List.{List}
+use native.Mathlib.Nat.{le-refl}
+use lib.ListN.{length}
+use Rattle.store.specs.Store.{Store, Live, PseudoCommitted}
+use Rattle.store.specs.Dependency.{DependsOn, Way}
+use Rattle.store.specs.Layout.{base, Packed}
+use Rattle.store.specs.Soundness.{EntriesLive, Acyclic, Dependent}
+use Rattle.store.specs.Laws.Dependencies.{depended-on}
+use Rattle.store.specs.Laws.Ways.{way-monotone}
+use Rattle.cycles.specs.Cycles.{In, EdgeIn}
+use Rattle.dependencies.specs.Dependencies.{Holds, Represents}
+
+-- A clause that fails refuses the whole.
+pub refused : {b : Bool} {P Q : Type 0} → (b ≡ true) ↔ P → b ≡ false → (Q → P) → (false ≡ true) ↔ Q
+refused decided fails part = (λ e. absurd (false≢true e), λ q. absurd (true≢false (sym (decided .1 (part q)) ∙ fails)))
+
+pub of-another-length : (w : List ℕ) → (length w ≡ 3_937 → ⊥) → (false ≡ true) ↔ Packed base w
+of-another-length w other = (λ e. absurd (false≢true e), λ (p : Packed base w). absurd (other (p .words)))
+
+-- Where all but the last clause hold, the last decides.
+pub last : {b : Bool} {P Q : Type 0} → (b ≡ true) ↔ P → (P → Q) → (Q → P) → (b ≡ true) ↔ Q
+last decided whole part = (λ e. whole (decided .0 e), λ q. decided .1 (part q))
+
+-- What the sets of dependency say is said of the store.
+module _ (s : Store) (sets : List ℕ) (finished : ℕ) (edges : Represents sets (DependsOn (s .log))) (members : Holds finished (PseudoCommitted s)) where
+  pub acyclic-said : ((t : ℕ) → In finished t → Way (EdgeIn sets) (In finished) 64 t t → ⊥) ↔ Acyclic s
+  acyclic-said = (
+    λ none t p w. none t (members t .1 p)
+        (way-monotone (DependsOn (s .log)) (EdgeIn sets) (PseudoCommitted s) (In finished) (λ a b. edges a b .1) (λ c. members c .1) 64 64 (le-refl 64) t t w),
+    λ none t p w. none t (members t .0 p)
+        (way-monotone (EdgeIn sets) (DependsOn (s .log)) (In finished) (PseudoCommitted s) (λ a b. edges a b .0) (λ c. members c .0) 64 64 (le-refl 64) t t w),
+  )
+
+  pub dependent-said : EntriesLive base s → ((t : ℕ) → In finished t → (u : ℕ) × EdgeIn sets t u) ↔ Dependent s
+  dependent-said live = (
+    λ some t p. let d = some t (members t .1 p) in
+        let depends = edges t (d .0) .0 (d .1) in
+        (d .0, depended-on (Live s) t (d .0) (s .log) live depends, depends),
+    λ some t p. let d = some t (members t .0 p) in (d .0, edges t (d .0) .1 (d .2)),
+  )
