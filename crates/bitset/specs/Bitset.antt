@@ -2,7 +2,10 @@
 use Prim.Native.Nat.{ℕ, _<_, _/_, _%_, _^_}
 use mathlib.Core.Path.{_≡_}
 use mathlib.Core.Bool.{Bool, true, false}
+use mathlib.Core.Logic.{_↔_}
+use mathlib.Core.List.{List}
 use lib.Dec.{eqb}
+use lib.ListN.{getD}
 
 -- Transaction h is a member of the set s where bit h of s is 1.
 unfoldable pub has : ℕ → ℕ → Bool
@@ -17,3 +20,14 @@ pub record Lowest (s h : ℕ) : Type 0 where
   pub below : h < 64
   pub member : has s h ≡ true
   pub least : (k : ℕ) → k < h → has s k ≡ false
+
+abbrev pub In : ℕ → ℕ → Type 0
+In s h = has s h ≡ true
+
+-- The set has exactly the members that a predicate tells,
+abbrev pub Holds : ℕ → (ℕ → Type 0) → Type 0
+Holds s P = (h : ℕ) → In s h ↔ P h
+
+-- and each of several sets those that a relation tells.
+abbrev pub Represents : List ℕ → (ℕ → ℕ → Type 0) → Type 0
+Represents sets R = (a b : ℕ) → In (getD sets a 0) b ↔ R a b

@@ -1,18 +1,13 @@
 -- Dependency as sets: element a of the list is the set of those on whom transaction a depends.
 use Prim.Native.Nat.{ℕ}
-use mathlib.Core.Path.{_≡_}
-use mathlib.Core.Bool.{true}
 use mathlib.Core.Logic.{_↔_}
 use mathlib.Core.List.{List}
 use lib.ListN.{getD}
-use Rattle.bitset.specs.Bitset.{has}
+use Rattle.bitset.specs.Bitset.{In}
 use Rattle.store.specs.Dependency.{Path}
 
-abbrev pub In : ℕ → ℕ → Type 0
-In set c = has set c ≡ true
-
 abbrev pub EdgeIn : List ℕ → ℕ → ℕ → Type 0
-EdgeIn sets a b = has (getD sets a 0) b ≡ true
+EdgeIn sets a b = In (getD sets a 0) b
 
 -- The set of those that a way leads to.
 abbrev pub Reaches : List ℕ → ℕ → ℕ → ℕ → Type 0

@@ -8,11 +8,11 @@ use borrow.Author.Tests.{eq-eqb, ne-eqb, eqb-false, eqb-true, not-true}
 use lib.Dec.{eqb}
 use lib.ListN.{getD}
 use Rattle.operations.specs.Laws.Cases.{split, same}
-use Rattle.bitset.specs.Bitset.{has, Members}
+use Rattle.bitset.specs.Bitset.{has, Members, In}
 use Rattle.bitset.specs.Laws.{no-member, no-members, some-member, member-below, part-less}
 use Rattle.store.specs.Dependency.{Way, Path}
 use Rattle.store.specs.Laws.Ways.{onward, shortened}
-use Rattle.cycles.specs.Cycles.{In, EdgeIn, Reaches}
+use Rattle.cycles.specs.Cycles.{EdgeIn, Reaches}
 
 -- ---- Members of unions, of intersections, of the empty set, and of a set without one
 

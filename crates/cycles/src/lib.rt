@@ -4,8 +4,9 @@ ghost use mathlib.Core.Bool.{true};
 ghost use mathlib.Core.Logic.{_↔_};
 ghost use Prim.Native.Nat.{ℕ, _<_};
 ghost use lib.ListN.{getD};
+ghost use Rattle.bitset.specs.Bitset.{In};
 ghost use Rattle.store.specs.Dependency.{Way};
-ghost use Rattle.cycles.specs.Cycles.{In, EdgeIn, Reaches};
+ghost use Rattle.cycles.specs.Cycles.{EdgeIn, Reaches};
 
 // On whom the transaction depends.
 fn dependencies(edges: &[u64; 64], transaction: u32) -> u64

@@ -8,16 +8,8 @@ use lib.Dec.{leb}
 use lib.ListN.{length, getD}
 use Rattle.operations.specs.Operations.{Kind, Stack, Set, Table, Operation, kindOf}
 use Rattle.operations.specs.PairRules.{Rule, always, never, apart, Rules, ruleAt, firstNumber, lastNumber, recoverable, commutes}
-use Rattle.bitset.specs.Bitset.{has}
+use Rattle.bitset.specs.Bitset.{has, Holds, Represents}
 use Rattle.store.specs.Layout.{word, entryStart, operationAt, AsStored}
-
--- A set that has exactly the members that a predicate tells.
-abbrev pub Holds : ℕ → (ℕ → Type 0) → Type 0
-Holds set P = (b : ℕ) → (has set b ≡ true) ↔ P b
-
--- Sets that have exactly the members that a relation tells.
-abbrev pub Represents : List ℕ → (ℕ → ℕ → Type 0) → Type 0
-Represents sets R = (a b : ℕ) → (has (getD sets a 0) b ≡ true) ↔ R a b
 
 -- Some number below n is such.
 abbrev pub Some : (ℕ → Type 0) → ℕ → Type 0

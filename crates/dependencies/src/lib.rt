@@ -4,13 +4,14 @@ ghost use mathlib.Core.Path.{_≡_};
 ghost use mathlib.Core.Bool.{true};
 ghost use mathlib.Core.Logic.{_↔_};
 ghost use Prim.Native.Nat.{_+_, _-_, _<_, _≤_};
+ghost use Rattle.bitset.specs.Bitset.{Holds, Represents};
 ghost use Rattle.operations.specs.PairRules.{Rule, recoverableRules, commutingRules};
 ghost use Rattle.pairs.specs.Pairs.{codeOf, codeAt};
 ghost use Rattle.pairs.specs.Laws.{Within};
 ghost use Rattle.store.specs.Layout.{word, base, decode, Packed};
 ghost use Rattle.store.specs.Soundness.{EntriesLive, EntriesFit, EntriesRecoverable};
 ghost use Rattle.store.specs.Dependency.{DependsOn};
-ghost use Rattle.dependencies.specs.Dependencies.{Holds, Represents, Readable, Barred, Numbered, kindNumbered, firstOf, lastOf, columnOf, picked as Pick, Picked, WithOwner, Alike, Gathered, slotAt, Latest, Chained};
+ghost use Rattle.dependencies.specs.Dependencies.{Readable, Barred, Numbered, kindNumbered, firstOf, lastOf, columnOf, picked as Pick, Picked, WithOwner, Alike, Gathered, slotAt, Latest, Chained};
 
 // Whether each entry is recoverable against every earlier one of another transaction, and for each transaction those that it depends on.
 pub struct LogConflicts {

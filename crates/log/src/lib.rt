@@ -8,7 +8,7 @@ ghost use mathlib.Core.Option.{some};
 ghost use Prim.Native.Nat.{ℕ, _+_, _-_, _≤_, _<_};
 ghost use lib.ListN.{length, replicate};
 ghost use lib.Seq.{sets};
-ghost use Rattle.bitset.specs.Bitset.{has};
+ghost use Rattle.bitset.specs.Bitset.{Holds};
 ghost use Rattle.operations.specs.Operations as model;
 ghost use Rattle.operations.specs.Stored.{asReply};
 ghost use Rattle.store.specs.Store.{Live, objectOf};
@@ -123,7 +123,7 @@ fn entry_fits(book: &[u32], live: u64, i: usize) -> bool
 
 // Whether each entry belongs to a live transaction, fits its object's kind and has a reduced key.
 pub fn fits(book: &[u32], live: u64) -> bool
-    requires { ⌜ Packed base (now book) × ((t : ℕ) → (has live t ≡ true) ↔ Live (decode base (now book)) t) ⌝ }
+    requires { ⌜ Packed base (now book) × Holds live (Live (decode base (now book))) ⌝ }
     ensures { λ r. ⌜ (r ≡ true) ↔ (EntriesLive base (decode base (now (book .entry))) × EntriesFit base (decode base (now (book .entry))) × KeysReduced base (decode base (now (book .entry)))) ⌝ }
 {
     let count = layout::entry_count(book);

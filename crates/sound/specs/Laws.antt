@@ -6,14 +6,14 @@ use mathlib.Core.Logic.{_↔_}
 use mathlib.Core.List.{List}
 use native.Mathlib.Nat.{le-refl}
 use lib.ListN.{length}
+use Rattle.bitset.specs.Bitset.{Holds, Represents, In}
 use Rattle.store.specs.Store.{Store, Live, PseudoCommitted}
 use Rattle.store.specs.Dependency.{DependsOn, Way}
 use Rattle.store.specs.Layout.{base, Packed}
 use Rattle.store.specs.Soundness.{EntriesLive, Acyclic, Dependent}
 use Rattle.store.specs.Laws.Dependencies.{depended-on}
 use Rattle.store.specs.Laws.Ways.{way-monotone}
-use Rattle.cycles.specs.Cycles.{In, EdgeIn}
-use Rattle.dependencies.specs.Dependencies.{Holds, Represents}
+use Rattle.cycles.specs.Cycles.{EdgeIn}
 
 -- A clause that fails refuses the whole.
 pub refused : {b : Bool} {P Q : Type 0} → (b ≡ true) ↔ P → b ≡ false → (Q → P) → (false ≡ true) ↔ Q

@@ -2,17 +2,13 @@
 use Prim.Native.Nat.{ℕ, suc, _<_, _≤_}
 use mathlib.Core.Path.{_≡_}
 use mathlib.Core.Bool.{true, false, _||_}
-use mathlib.Core.Logic.{_↔_, _⊎_}
+use mathlib.Core.Logic.{_⊎_}
 use lib.Dec.{eqb}
 use Rattle.bitset.specs.Bitset.{has, Members}
 use Rattle.store.specs.Store.{Status, absent, active, pseudoCommitted}
 use Rattle.store.specs.Layout.{statusWord, readStatus}
 use Rattle.store.specs.Steps.{lowered}
 use Rattle.statuses.specs.declared.Ranks.{Ranks}
-
--- The set has exactly the members that the predicate names.
-abbrev pub Has : ℕ → (ℕ → Type 0) → Type 0
-Has set P = (t : ℕ) → (has set t ≡ true) ↔ P t
 
 -- What a status adds to the ranks seen: a rank below 64 that is new joins; any other is none that once-each ranks without gaps can have.
 abbrev pub Noted : Status → Ranks → Ranks → Type 0

@@ -8,12 +8,12 @@ ghost use mathlib.Core.Logic.{_↔_};
 ghost use Prim.Native.Nat.{_+_, _<_};
 ghost use lib.Dec.{eqb};
 ghost use lib.ListN.{length};
-ghost use Rattle.bitset.specs.Bitset.{has, Members};
+ghost use Rattle.bitset.specs.Bitset.{has, Members, Holds};
 ghost use Rattle.store.specs.Layout.{Packed, base, decode, encode, readStatus, word};
 ghost use Rattle.store.specs.Store.{Live, PseudoCommitted, finishedCount};
 ghost use Rattle.store.specs.Soundness.{OnceEach, WithoutGaps};
 ghost use Rattle.store.specs.Steps.{withStatus, closedUp};
-ghost use Rattle.statuses.specs.Statuses.{Has, Noted, Downward, loweredWord};
+ghost use Rattle.statuses.specs.Statuses.{Noted, Downward, loweredWord};
 
 // Who is live, who is pseudo-committed, and whether ranks are 0, 1, 2 and on, once each.
 pub struct Summary {
@@ -80,7 +80,7 @@ fn in_order(ranks: Ranks) -> bool
 
 pub fn statuses(book: &[u32]) -> Summary
     requires { ⌜ length (now book) ≡ 3937 ⌝ }
-    ensures { λ r. ⌜ Has (r .live) (Live (decode base (now (book .entry)))) × Has (r .finished) (PseudoCommitted (decode base (now (book .entry)))) × ((r .ranked ≡ true) ↔ (OnceEach (decode base (now (book .entry))) × WithoutGaps (decode base (now (book .entry))))) ⌝ }
+    ensures { λ r. ⌜ Holds (r .live) (Live (decode base (now (book .entry)))) × Holds (r .finished) (PseudoCommitted (decode base (now (book .entry)))) × ((r .ranked ≡ true) ↔ (OnceEach (decode base (now (book .entry))) × WithoutGaps (decode base (now (book .entry))))) ⌝ }
 {
     let mut live: u64 = 0;
     let mut finished: u64 = 0;

@@ -3,9 +3,10 @@ use Prim.Native.Nat.{_-_, _≤_, _<_}
 use mathlib.Core.Path.{_≡_, refl, sym, _∙_}
 use native.Mathlib.Omega.{arith}
 use lib.ListN.{length, length-set}
+use Rattle.bitset.specs.Bitset.{Holds, Represents}
 use Rattle.operations.specs.PairRules.{commutes}
 use Rattle.store.specs.Layout.{word}
-use Rattle.dependencies.specs.Dependencies.{Holds, Represents, transactionAt, Readable, BarsBelow, Unrecoverable, Gathered, Chained}
+use Rattle.dependencies.specs.Dependencies.{transactionAt, Readable, BarsBelow, Unrecoverable, Gathered, Chained}
 use Rattle.dependencies.specs.Laws.Entries.{readable}
 use Rattle.dependencies.specs.Laws.Rows.{gathered-none}
 use Rattle.dependencies.specs.Laws.Chains.{chained-none}

@@ -7,11 +7,11 @@ use mathlib.Core.List.{List}
 use lib.Dec.{eqb}
 use lib.ListN.{length, getD, set, replicate}
 use Rattle.operations.specs.PairRules.{recoverable, commutes}
-use Rattle.bitset.specs.Bitset.{has, Members}
+use Rattle.bitset.specs.Bitset.{has, Members, Holds, Represents}
 use Rattle.store.specs.Layout.{word, base, decode}
 use Rattle.store.specs.Soundness.{EntriesLive, EntriesFit, EntriesRecoverable}
 use Rattle.store.specs.Dependency.{DependsOn}
-use Rattle.dependencies.specs.Dependencies.{Holds, Represents, transactionAt, Bars, BarsBelow, Unrecoverable}
+use Rattle.dependencies.specs.Dependencies.{transactionAt, Bars, BarsBelow, Unrecoverable}
 use Rattle.dependencies.specs.Laws.Sets.{some-none, some-more, holds-none, holds-same, holds-join, holds-empty, represents-same, represents-join}
 use Rattle.dependencies.specs.Laws.Entries.{recoverable-none, depends-bars}
 use Rattle.dependencies.specs.Laws.Rows.{blank-row}

@@ -11,9 +11,9 @@ use lib.ListN.{getD}
 use Rattle.operations.specs.Operations.{Kind, Stack, Set, Table, push, pop, top, setInsert, setDelete, member, tableInsert, tableDelete, lookup, size, modify, Operation, onStack, onSet, onTable, kindOf, numberOf, keyOf}
 use Rattle.operations.specs.PairRules.{Rule, always, never, apart, Rules, allows, ruleAt, firstNumber, lastNumber}
 use Rattle.operations.specs.Laws.Cases.{split}
-use Rattle.bitset.specs.Bitset.{has, Members}
+use Rattle.bitset.specs.Bitset.{has, Members, Holds}
 use Rattle.pairs.specs.Pairs.{codeOf, codeAt}
-use Rattle.dependencies.specs.Dependencies.{Holds, Some, Numbered, kindNumbered, firstOf, lastOf, columnOf, picked, pickedAt, Picked}
+use Rattle.dependencies.specs.Dependencies.{Some, Numbered, kindNumbered, firstOf, lastOf, columnOf, picked, pickedAt, Picked}
 use Rattle.dependencies.specs.Laws.Sets.{some-none, some-more, holds-none, holds-same, holds-join}
 
 -- ---- Kinds

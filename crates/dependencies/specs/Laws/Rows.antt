@@ -14,10 +14,10 @@ use Rattle.operations.specs.Operations.{Kind, Operation, kindOf, numberOf, keyO
 use Rattle.operations.specs.PairRules.{Rule, never, apart, Rules, allows, ruleAt, ruleFor, related, firstNumber, lastNumber, recoverable, commutes, recoverableRules, commutingRules}
 use Rattle.operations.specs.Laws.Cases
 use Rattle.operations.specs.Laws.Cases.{split}
-use Rattle.bitset.specs.Bitset.{has, Members}
+use Rattle.bitset.specs.Bitset.{has, Members, Holds, Represents}
 use Rattle.bitset.specs.Laws.{empty}
 use Rattle.store.specs.Layout.{word, operationAt}
-use Rattle.dependencies.specs.Dependencies.{Holds, Represents, Some, transactionAt, objectAt, numberAt, keyAt, Readable, Fails, Bars, Barred, Numbered, kindNumbered, firstOf, lastOf, columnOf, picked, pickedAt, Picked, Owned, WithOwner, On, Alike, Gathered, Latest}
+use Rattle.dependencies.specs.Dependencies.{Some, transactionAt, objectAt, numberAt, keyAt, Readable, Fails, Bars, Barred, Numbered, kindNumbered, firstOf, lastOf, columnOf, picked, pickedAt, Picked, Owned, WithOwner, On, Alike, Gathered, Latest}
 use Rattle.dependencies.specs.Laws.Sets.{some-none, some-more, holds-none, holds-same, holds-without, represents-same}
 use Rattle.dependencies.specs.Laws.Numbers.{ranged, placed, picked-of, picked-from}
 

@@ -10,9 +10,9 @@ use lib.Dec.{eqb}
 use lib.ListN.{getD, set, length}
 use lib.Seq.{getD-set-same, getD-set-other}
 use Rattle.operations.specs.Laws.Cases.{split, same}
-use Rattle.bitset.specs.Bitset.{has, Members}
+use Rattle.bitset.specs.Bitset.{has, Members, Holds, Represents}
 use Rattle.bitset.specs.Laws.{empty}
-use Rattle.dependencies.specs.Dependencies.{Holds, Represents, Some, WithOwner}
+use Rattle.dependencies.specs.Dependencies.{Some, WithOwner}
 
 -- ---- Some number below n
 

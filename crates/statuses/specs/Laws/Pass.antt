@@ -5,13 +5,13 @@ use mathlib.Core.Bool.{true, _&&_, _||_}
 use mathlib.Core.Logic.{_↔_}
 use mathlib.Core.List.{List}
 use lib.Dec.{eqb, ltb}
-use Rattle.bitset.specs.Bitset.{has, Members}
+use Rattle.bitset.specs.Bitset.{has, Members, Holds}
 use Rattle.store.specs.Store.{Live, PseudoCommitted}
 use Rattle.store.specs.Soundness.{OnceEach, WithoutGaps}
 use Rattle.store.specs.Layout.{base, decode, readStatus, word}
 use Rattle.store.specs.Laws.Reading.{status-read, live-below}
 use Rattle.statuses.specs.declared.Ranks.{Ranks}
-use Rattle.statuses.specs.Statuses.{Has, Noted, Downward}
+use Rattle.statuses.specs.Statuses.{Noted, Downward}
 use Rattle.statuses.specs.Laws.Sets.{Upto, upto-none, upto-next, upto-all}
 use Rattle.statuses.specs.Laws.Words.{live-test, finished-test, finished-below}
 use Rattle.statuses.specs.Laws.Ranks.{Seen, none-seen, next, ended}
@@ -42,7 +42,7 @@ module _ (w : List ℕ) where
         }
 
   pub pass-end : (live finished : ℕ) (ranks : Ranks) → Gathered 64 live finished ranks
-      → Has live (Live (decode base w)) × Has finished (PseudoCommitted (decode base w)) × (((ranks .once ≡ true) × Downward (ranks .seen)) ↔ (OnceEach (decode base w) × WithoutGaps (decode base w)))
+      → Holds live (Live (decode base w)) × Holds finished (PseudoCommitted (decode base w)) × (((ranks .once ≡ true) × Downward (ranks .seen)) ↔ (OnceEach (decode base w) × WithoutGaps (decode base w)))
   pass-end live finished ranks gathered = (
     upto-all (Live (decode base w)) 64 live (live-below base w) (gathered .live-upto),
     upto-all (PseudoCommitted (decode base w)) 64 finished (finished-below w) (gathered .finished-upto),

@@ -7,14 +7,14 @@ use native.Mathlib.Nat.{not-suc-le-zero}
 use native.Mathlib.Omega.{arith}
 use borrow.Author.Tests.{eq-eqb, ne-eqb}
 use lib.Dec.{eqb}
-use Rattle.bitset.specs.Bitset.{has, Members}
+use Rattle.bitset.specs.Bitset.{has, Members, Holds}
 use Rattle.bitset.specs.Laws.{no-member}
 use Rattle.operations.specs.Laws.Cases.{split, same}
 use Rattle.store.specs.Store.{Status, absent, active, pseudoCommitted, Store, statusOf}
 use Rattle.store.specs.Layout.{statusWord}
 use Rattle.store.specs.Soundness.{OnceEach, WithoutGaps}
 use Rattle.statuses.specs.declared.Ranks.{Ranks}
-use Rattle.statuses.specs.Statuses.{Has, Noted, Downward}
+use Rattle.statuses.specs.Statuses.{Noted, Downward}
 use Rattle.statuses.specs.Laws.Sets.{one-more, downward}
 
 -- ---- Numbers below n have at most n values
@@ -58,7 +58,7 @@ module _ (s : Store) where
   Different n = (t u rank : ℕ) → t < n → u < n → statusOf s t ≡ pseudoCommitted rank → statusOf s u ≡ pseudoCommitted rank → t ≡ u
 
   pub record Seen (n : ℕ) (ranks : Ranks) : Type 0 where
-    pub holds : ranks .once ≡ true → Has (ranks .seen) (Given n) × Different n
+    pub holds : ranks .once ≡ true → Holds (ranks .seen) (Given n) × Different n
     pub fails : ranks .once ≡ false → OnceEach s → WithoutGaps s → ⊥
 
   given-more : (n rank : ℕ) → Given n rank → Given (n + 1) rank
@@ -91,13 +91,13 @@ module _ (s : Store) where
   module _ (n rank : ℕ) (own : statusOf s n ≡ pseudoCommitted rank) where
     -- A rank that was not seen joins.
     module _ (before after : Ranks) (new : has (before .seen) rank ≡ false) (members : Members (after .seen) (λ h. has (before .seen) h || eqb h rank)) where
-      module _ (known : Has (before .seen) (Given n)) where
+      module _ (known : Holds (before .seen) (Given n)) where
         given-now : (r : ℕ) → Given (n + 1) r → has (after .seen) r ≡ true
         given-now r (t, l, e) =
             let more = one-more (before .seen) (after .seen) rank members r in
             same t n (λ q. more .1 (inr (same-rank n r rank (at n t r q e) own))) (λ other. more .1 (inl (known r .1 (t, omega arith, e))))
 
-        joined : Has (after .seen) (Given (n + 1))
+        joined : Holds (after .seen) (Given (n + 1))
         joined r = (
           λ h.
               ⊎-elim
@@ -159,7 +159,7 @@ module _ (s : Store) where
 
     -- After all transactions.
     module _ (ranks : Ranks) (seen : Seen 64 ranks) where
-      module _ (known : Has (ranks .seen) (Given 64)) where
+      module _ (known : Holds (ranks .seen) (Given 64)) where
         given : (r : ℕ) → (t : ℕ) × (statusOf s t ≡ pseudoCommitted r) → has (ranks .seen) r ≡ true
         given r (t, e) = known r .1 (t, within t r e, e)
 
@@ -182,7 +182,7 @@ module _ (s : Store) where
           gapless (seen .holds (p .0) .0) (p .1),
         ),
         λ p.
-            let known : Has (ranks .seen) (Given 64) = seen .holds (once p) .0 in
+            let known : Holds (ranks .seen) (Given 64) = seen .holds (once p) .0 in
             (once p, λ r h. lower known (p .1) r (owner known (suc r) (known (suc r) .0 h))),
       )
 

@@ -7,10 +7,10 @@ use native.Mathlib.Nat.{not-suc-le-zero}
 use native.Mathlib.Omega.{arith}
 use borrow.Author.Tests.{eqb-true, eq-eqb}
 use lib.Dec.{eqb}
-use Rattle.bitset.specs.Bitset.{has, Members}
+use Rattle.bitset.specs.Bitset.{has, Members, Holds}
 use Rattle.bitset.specs.Laws.{no-member, half, same-members}
 use Rattle.operations.specs.Laws.Cases.{same}
-use Rattle.statuses.specs.Statuses.{Has, Downward}
+use Rattle.statuses.specs.Statuses.{Downward}
 
 either : (a b : Bool) → (a || b) ≡ true → (a ≡ true) ⊎ (b ≡ true)
 either true b e = inl refl
@@ -45,7 +45,7 @@ one-more set next n members h = (
 -- Those below n of a sort.
 module _ (P : ℕ → Type 0) where
   abbrev pub Upto : ℕ → ℕ → Type 0
-  Upto n set = Has set (λ t. (t < n) × P t)
+  Upto n set = Holds set (λ t. (t < n) × P t)
 
   pub upto-none : Upto 0 0
   upto-none t = (λ h. absurd (false≢true (sym (no-member t) ∙ h)), λ p. absurd (not-suc-le-zero (p .0)))
@@ -66,7 +66,7 @@ module _ (P : ℕ → Type 0) where
         λ p. same t n (λ q. absurd (false≢true (decides .1 (subst P q (p .1))))) (λ other. e ∙ upto t .1 (omega arith, p .1)),
       )
 
-  pub upto-all : (n set : ℕ) → ((t : ℕ) → P t → t < n) → Upto n set → Has set P
+  pub upto-all : (n set : ℕ) → ((t : ℕ) → P t → t < n) → Upto n set → Holds set P
   upto-all n set below upto t = (λ h. upto t .0 h .1, λ p. upto t .1 (below t p, p))
 
 pub downward : (set : ℕ) → Downward set → (m n : ℕ) → n < m → has set m ≡ true → has set n ≡ true
