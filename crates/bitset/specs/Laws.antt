@@ -11,7 +11,7 @@ use lib.Arith.{bin-ind, lt-one}
 use lib.Bits.{bitAnd, bitOr, bitXor, and-shr, or-shr, xor-shr, and-mod, or-mod, xor-mod, and-mask, and-comm, and-le-r, xor-add-and}
 use lib.Count.{trailingZeros, under}
 use lib.Dec.{eqb, eqb·zero-suc, eqb·suc-zero, eqb·suc-suc}
-use lib.Pow.{pow-pos, pow-mono, pow-lt, shr-shr}
+use lib.Pow.{pow-mono, pow-lt, shr-shr}
 use Rattle.bitset.specs.Bitset.{has, Members, Lowest}
 
 power : (t : ℕ) → Members (2 ^ t) (λ h. eqb h t)
@@ -143,15 +143,14 @@ but : (p o e : Bool) → (p ≡ true → o ≡ true) → p && cond o (not e) e �
 but true o e f = rw (f refl)
 but false o e f = refl
 
-pub removed : (s t : ℕ) → s < 2 ^ 64 → t < 64 → Members (bitAnd s ((2 ^ 64 - 1) - 1 * 2 ^ t % 2 ^ 64)) (λ h. has s h && not (eqb h t))
-removed s t l m h =
-    let x = 1 * 2 ^ t % 2 ^ 64 in
-    let part : bitAnd (2 ^ 64 - 1) x ≡ x = and-comm (2 ^ 64 - 1) x ∙ and-mask x 64 ∙ mod-eq-of-lt (mod-lt (1 * 2 ^ t) (pow-pos 64)) in
+pub removed : (s x t : ℕ) → s < 2 ^ 64 → x < 2 ^ 64 → Members x (λ h. eqb h t) → Members (bitAnd s ((2 ^ 64 - 1) - x)) (λ h. has s h && not (eqb h t))
+removed s x t l m one h =
+    let part : bitAnd (2 ^ 64 - 1) x ≡ x = and-comm (2 ^ 64 - 1) x ∙ and-mask x 64 ∙ mod-eq-of-lt m in
     ap (λ (n : ℕ). has (bitAnd s n) h) (difference (2 ^ 64 - 1) x part)
     ∙ met s (bitXor (2 ^ 64 - 1) x) h
     ∙ ap (λ (b : Bool). has s h && b) (differing (2 ^ 64 - 1) x h)
     ∙ but (has s h) (has (2 ^ 64 - 1) h) (has x h) (in-all s h l)
-    ∙ ap (λ (b : Bool). has s h && not b) (shifted t m h)
+    ∙ ap (λ (b : Bool). has s h && not b) (one h)
 
 -- t is a member of s, and none is lower.
 abbrev Found : ℕ → ℕ → Type 0
@@ -178,3 +177,11 @@ pub trailing : (s : ℕ) → s < 2 ^ 64 → (s ≡ 0 → ⊥) → Lowest s (trai
 trailing s l some =
     let f = lowest-bit 64 s l some in
     record { below = member-below s (trailingZeros 64 s) l (f .0); member = f .0; least = f .1 }
+
+above-self : (n : ℕ) → n < 2 ^ n
+above-self zero = zero-lt-suc 0
+above-self (suc n) = omega (arith, pow-suc 2 n, above-self n)
+
+-- A set that is not 0 has a member.
+pub some-member : (s : ℕ) → (s ≡ 0 → ⊥) → (h : ℕ) × (has s h ≡ true)
+some-member s some = (trailingZeros s s, lowest-bit s s (above-self s) some .0)

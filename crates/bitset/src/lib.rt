@@ -40,7 +40,7 @@ pub fn without(set: u64, transaction: u32) -> u64
     requires { ⌜ transaction < 64 ⌝ }
     ensures { λ r. ⌜ Members r (λ h. has set h && not (eqb h transaction)) ⌝ }
 {
-    set & !(1u64 << transaction)
+    set & !single(transaction)
 }
 
 // The lowest member of a set that has one.

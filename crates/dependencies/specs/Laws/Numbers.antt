@@ -1,8 +1,8 @@
 -- Operations by number: their kinds and columns, and what the rules pick.
 use Prim.Native.Nat.{ℕ, _+_, _-_, _≤_, _<_}
 use mathlib.Core.Path.{_≡_, refl, sym, ap, _∙_}
-use mathlib.Core.Bool.{Bool, true, false, _||_, _&&_, not, true≢false}
-use mathlib.Core.Logic.{_↔_, _⊎_, inl, inr}
+use mathlib.Core.Bool.{true, false, _||_, true≢false}
+use mathlib.Core.Logic.{_⊎_, inl, inr}
 use mathlib.Core.List.{List}
 use native.Mathlib.Omega.{arith}
 use borrow.Author.Tests.{le-leb, lt-leb, leb-true, leb-false, eqb-true, not-false}
@@ -13,7 +13,7 @@ use Rattle.operations.specs.PairRules.{Rule, always, never, apart, Rules, allow
 use Rattle.operations.specs.Laws.Cases.{split}
 use Rattle.bitset.specs.Bitset.{has, Members}
 use Rattle.pairs.specs.Pairs.{codeOf, codeAt}
-use Rattle.dependencies.specs.Dependencies.{Holds, Some, Numbered, kindNumbered, firstOf, lastOf, columnOf, picked, pickedAt, Picked}
+use Rattle.dependencies.specs.Dependencies.{Holds, Numbered, kindNumbered, firstOf, lastOf, columnOf, picked, pickedAt, Picked}
 use Rattle.dependencies.specs.Laws.Sets.{some-none, some-more, holds-none, holds-same, holds-join}
 
 -- ---- Kinds
