@@ -12,7 +12,6 @@ use Rattle.operations.specs.Operations.{Kind, kindOf, keyOf}
 use Rattle.operations.specs.PairRules.{Rule, never, apart, Rules, allows, ruleAt, ruleFor, related, firstNumber, lastNumber, recoverableRules, commutingRules}
 use Rattle.operations.specs.Laws.Cases
 use Rattle.bitset.specs.Bitset.{has, Members}
-use Rattle.bitset.specs.Laws.{empty}
 use Rattle.store.specs.Layout.{word, operationAt}
 use Rattle.dependencies.specs.Dependencies.{Holds, Represents, transactionAt, objectAt, numberAt, keyAt, Readable, Bars, Barred, Numbered, kindNumbered, columnOf, widthOf, Picked, Owned, EntryRead, On, Alike, Gathered, Latest}
 use Rattle.dependencies.specs.Laws.Sets.{holds-same, holds-without}
@@ -78,7 +77,7 @@ module _ (w : List ℕ) (readable : Readable w) where
         let (j, k, ((o, key), c, t)) = held-alike m b .0 (p .1) in
         refused b m j apart other k o c t (p .0)
         (rw (eq-eqb (keyOf (operationAt w i)) (keyOf (operationAt w j)) (key-read i j l (omega arith) o key))))
-        (picked-from (getD whole m 0) (getD same m 0) b (ruleOf m) h (empty 0 .0 refl b))
+        (picked-from (getD whole m 0) (getD same m 0) b (ruleOf m) h)
 
     bars-picked : (b : ℕ) → Bars (related rules) w i b → Columns b × (b ≡ transactionAt w i → ⊥)
     bars-picked b (j, n, (t, f)) =

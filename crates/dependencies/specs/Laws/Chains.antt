@@ -10,7 +10,7 @@ use lib.ListN.{getD, set, replicate, length-set, length-replicate}
 use lib.Seq.{getD-set-same, getD-set-other}
 use Rattle.operations.specs.Laws.Cases.{split, same}
 use Rattle.dependencies.specs.Dependencies.{Alike, Reached, Latest, slotOf, slotAt, In, Chained}
-use Rattle.dependencies.specs.Laws.Rows.{blank}
+use Rattle.dependencies.specs.Laws.Sets.{blank}
 
 one-slot : (w : List ℕ) (i j : ℕ) → Alike w i j → In w (slotAt w i) j
 one-slot w i j (o, k) = ap₂ slotOf o k

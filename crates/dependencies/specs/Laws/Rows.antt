@@ -14,7 +14,7 @@ use Rattle.operations.specs.Laws.Cases
 use Rattle.operations.specs.Laws.Cases.{split}
 use Rattle.bitset.specs.Bitset.{has}
 use Rattle.dependencies.specs.Dependencies.{Represents, transactionAt, numberAt, columnOf, Owned, WithOwner, EntryRead, On, Alike, Gathered, Latest}
-use Rattle.dependencies.specs.Laws.Sets.{some-more, holds-none, represents-same}
+use Rattle.dependencies.specs.Laws.Sets.{some-more, blank, holds-none, represents-same}
 
 -- ---- One entry more
 
@@ -84,18 +84,10 @@ module _ (w : List ℕ) (i : ℕ) (whole same : List (List ℕ)) (g : Gathered w
 
 -- ---- No entry
 
-pub blank : (n a : ℕ) → getD {A = ℕ} (replicate n 0) a 0 ≡ 0
-blank zero a = refl
-blank (suc n) zero = refl
-blank (suc n) (suc a) = blank n a
-
 blank-rows : (n k o a : ℕ) → getD {A = ℕ} (getD (replicate n (replicate k 0)) o []) a 0 ≡ 0
 blank-rows zero k o a = refl
 blank-rows (suc n) k zero a = blank k a
 blank-rows (suc n) k (suc o) a = blank-rows n k o a
-
-pub blank-row : (n : ℕ) (R : ℕ → ℕ → Type 0) → ((a b : ℕ) → R a b → ⊥) → Represents (replicate n 0) R
-blank-row n R none a = rw (blank n a) (holds-none (R a) (none a))
 
 pub gathered-none : (w : List ℕ) (n m k : ℕ) → n ≡ 16 → m ≡ 257 → Gathered w 0 (replicate n (replicate k 0)) (replicate m (replicate k 0))
 gathered-none w n m k e f =
