@@ -80,6 +80,10 @@ lastOf number = lastNumber (kindNumbered number)
 abbrev pub columnOf : ℕ → ℕ
 columnOf number = number - firstOf number
 
+-- How many operations its kind has.
+abbrev pub widthOf : ℕ → ℕ
+widthOf number = lastOf number + 1 - firstOf number
+
 -- What the rule for a requested operation and one at a column picks: of two sets, the owners of such entries on the object, and of those with the same key.
 abbrev pub picked : Rule → ℕ → ℕ → ℕ
 picked never whole same = whole
@@ -92,6 +96,15 @@ pickedAt rules number whole same m = picked (ruleAt (rules (kindNumbered number)
 -- Transaction b is picked at a column below n.
 abbrev pub Picked : (Kind → Rules) → ℕ → List ℕ → List ℕ → ℕ → ℕ → Type 0
 Picked rules number whole same n b = Some (λ m. has (pickedAt rules number whole same m) b ≡ true) n
+
+-- What is read of entry i.
+pub record EntryRead (w : List ℕ) (i transaction object number : ℕ) : Type 0 where
+  pub of-transaction : transaction ≡ transactionAt w i
+  pub of-object : object ≡ objectAt w i
+  pub of-number : number ≡ numberAt w i
+  pub live : transaction < 64
+  pub within : object < 16
+  pub numbered : Numbered number
 
 -- ---- Owners of the entries so far
 

@@ -2,5 +2,6 @@ pub mod Sets
 pub mod Entries
 pub mod Numbers
 pub mod Rows
+pub mod Barring
 pub mod Chains
 pub mod Gathering

@@ -3,7 +3,7 @@
 ghost use mathlib.Core.Path.{_≡_};
 ghost use mathlib.Core.Bool.{true};
 ghost use mathlib.Core.Logic.{_↔_};
-ghost use Prim.Native.Nat.{_+_, _-_, _<_, _≤_};
+ghost use Prim.Native.Nat.{_+_, _-_, _<_};
 ghost use Rattle.bitset.specs.Bitset.{Holds, Represents};
 ghost use Rattle.operations.specs.PairRules.{Rule, recoverableRules, commutingRules};
 ghost use Rattle.pairs.specs.Pairs.{codeOf, codeAt};
@@ -11,7 +11,7 @@ ghost use Rattle.pairs.specs.Laws.{Within};
 ghost use Rattle.store.specs.Layout.{word, base, decode, Packed};
 ghost use Rattle.store.specs.Soundness.{EntriesLive, EntriesFit, EntriesRecoverable};
 ghost use Rattle.store.specs.Dependency.{DependsOn};
-ghost use Rattle.dependencies.specs.Dependencies.{Readable, Barred, Numbered, kindNumbered, firstOf, lastOf, columnOf, picked as Pick, Picked, WithOwner, Alike, Gathered, slotAt, Latest, Chained};
+ghost use Rattle.dependencies.specs.Dependencies.{Readable, Barred, Numbered, kindNumbered, firstOf, lastOf, columnOf, widthOf, picked as Pick, Picked, EntryRead, WithOwner, Alike, Gathered, slotAt, Latest, Chained};
 
 // Whether each entry is recoverable against every earlier one of another transaction, and for each transaction those that it depends on.
 pub struct LogConflicts {
@@ -23,6 +23,13 @@ pub struct LogConflicts {
 struct Blockers {
     unrecoverable: u64,
     conflicting: u64,
+}
+
+// An entry of the log: its transaction, its object, and the number of its operation.
+struct Entry {
+    transaction: u32,
+    object: usize,
+    number: u32,
 }
 
 // The owners of some entries, a set for each operation of the object's kind.
@@ -64,6 +71,8 @@ fn last(number: u32) -> u32
     11
 }
 
+// The codes of the rules for two operations of one kind.
+
 fn recoverable_rule(requested: u32, logged: u32) -> u8
     requires { ⌜ Within (kindNumbered requested) requested logged ⌝ }
     ensures { λ r. ⌜ r ≡ codeAt (recoverableRules (kindNumbered requested)) (columnOf requested) (logged - firstOf requested) ⌝ }
@@ -104,7 +113,7 @@ fn pick(rule: u8, whole: u64, same: u64) -> u64
 // The owners that bar an operation, out of those on its object and those with its key too.
 fn barring(number: u32, whole: Owners, same: Owners) -> Blockers
     requires { ⌜ Numbered number ⌝ }
-    ensures { λ r. ⌜ Holds (r .unrecoverable) (Picked recoverableRules number whole same (lastOf number + 1 - firstOf number)) × Holds (r .conflicting) (Picked commutingRules number whole same (lastOf number + 1 - firstOf number)) ⌝ }
+    ensures { λ r. ⌜ Holds (r .unrecoverable) (Picked recoverableRules number whole same (widthOf number)) × Holds (r .conflicting) (Picked commutingRules number whole same (widthOf number)) ⌝ }
 {
     let start = first(number);
     let end = last(number) + 1;
@@ -127,6 +136,7 @@ fn barring(number: u32, whole: Owners, same: Owners) -> Blockers
     }
 }
 
+// The row with an owner more, at the column of an operation.
 fn with_owner(row: Owners, number: u32, owner: u32) -> Owners
     requires { ⌜ Numbered number × (owner < 64) ⌝ }
     ensures { λ r. ⌜ WithOwner row (columnOf number) owner r ⌝ }
@@ -137,8 +147,10 @@ fn with_owner(row: Owners, number: u32, owner: u32) -> Owners
     row
 }
 
-// ---- Entries found again by object and key
+// ---- Entries found again by object and key: `heads` has the latest entry of each chain, `links` at `j + 1` the one before entry `j`. Each is an
+// entry's index plus one, or 0 for none.
 
+// Whether two entries have one object and one key.
 fn alike(book: &[u32], i: usize, j: usize) -> bool
     requires { ⌜ Readable (now book) × (i < word (now book) 0) × (j < word (now book) 0) ⌝ }
     ensures { λ r. ⌜ (r ≡ true) ↔ Alike (now (book .entry)) i j ⌝ }
@@ -151,6 +163,7 @@ fn alike(book: &[u32], i: usize, j: usize) -> bool
     logged.key == requested.key
 }
 
+// The chain that an entry is put in.
 fn slot(book: &[u32], i: usize) -> usize
     requires { ⌜ Readable (now book) × (i < word (now book) 0) ⌝ }
     ensures { λ r. ⌜ (r ≡ slotAt (now (book .entry)) i) × (r < 256) ⌝ }
@@ -159,7 +172,7 @@ fn slot(book: &[u32], i: usize) -> usize
     wide((operation.key % 256 + 16 * layout::entry_object(book, i)) % 256)
 }
 
-// The latest earlier entry with the object and key of entry `i`, plus one; 0 where there is none.
+// The latest earlier entry with the object and key of entry `i`.
 fn latest(book: &[u32], i: usize, heads: &[usize; 256], links: &[usize; 257]) -> usize
     requires { ⌜ Readable (now book) × (i < word (now book) 0) × Chained (now book) i (now heads) (now links) ⌝ }
     ensures { λ r. ⌜ Latest (Alike (now (book .entry)) i) i r ⌝ }
@@ -174,6 +187,7 @@ fn latest(book: &[u32], i: usize, heads: &[usize; 256], links: &[usize; 257]) ->
     0
 }
 
+// Entry `i` becomes the latest of its chain.
 fn chain(book: &[u32], i: usize, heads: &mut [usize; 256], links: &mut [usize; 257])
     requires { ⌜ Readable (now book) × (i < word (now book) 0) × Chained (now book) i (now heads) (now links) ⌝ }
     ensures { λ r. ⌜ Chained (now (book .entry)) (i + 1) (now (heads .exit)) (now (links .exit)) ⌝ }
@@ -183,8 +197,21 @@ fn chain(book: &[u32], i: usize, heads: &mut [usize; 256], links: &mut [usize; 2
     heads[at] = i + 1;
 }
 
-// ---- Entry by entry
+// ---- Entry by entry: `whole` has a row for each object, `same` at `j + 1` a row of the entries up to entry `j` that are like it; row 0 is empty.
 
+fn read(book: &[u32], i: usize) -> Entry
+    requires { ⌜ Readable (now book) × (i < word (now book) 0) ⌝ }
+    ensures { λ r. ⌜ EntryRead (now (book .entry)) i (r .transaction) (r .object) (r .number) ⌝ }
+{
+    let operation = layout::entry_operation(book, i);
+    Entry {
+        transaction: layout::entry_transaction(book, i),
+        object: wide(layout::entry_object(book, i)),
+        number: operation.number,
+    }
+}
+
+// The owners that bar entry `i`, whose like was found at `at`.
 fn blocking(
     book: &[u32],
     i: usize,
@@ -195,25 +222,24 @@ fn blocking(
     requires { ⌜ Readable (now book) × (i < word (now book) 0) × Latest (Alike (now book) i) i at × Gathered (now book) i (now whole) (now same) ⌝ }
     ensures { λ r. ⌜ Barred (now (book .entry)) i (r .unrecoverable) (r .conflicting) ⌝ }
 {
-    let operation = layout::entry_operation(book, i);
-    let object = wide(layout::entry_object(book, i));
-    let owner = layout::entry_transaction(book, i);
-    let found = barring(operation.number, whole[object], same[at]);
+    let entry = read(book, i);
+    let object = entry.object;
+    let found = barring(entry.number, whole[object], same[at]);
     Blockers {
-        unrecoverable: bitset::without(found.unrecoverable, owner),
-        conflicting: bitset::without(found.conflicting, owner),
+        unrecoverable: bitset::without(found.unrecoverable, entry.transaction),
+        conflicting: bitset::without(found.conflicting, entry.transaction),
     }
 }
 
+// Entry `i`'s owner is put into the row of its object, and into its own: that of the entries like it, and itself.
 fn gather(book: &[u32], i: usize, at: usize, whole: &mut [Owners; 16], same: &mut [Owners; 257])
     requires { ⌜ Readable (now book) × (i < word (now book) 0) × Latest (Alike (now book) i) i at × Gathered (now book) i (now whole) (now same) ⌝ }
     ensures { λ r. ⌜ Gathered (now (book .entry)) (i + 1) (now (whole .exit)) (now (same .exit)) ⌝ }
 {
-    let operation = layout::entry_operation(book, i);
-    let object = wide(layout::entry_object(book, i));
-    let owner = layout::entry_transaction(book, i);
-    whole[object] = with_owner(whole[object], operation.number, owner);
-    same[i + 1] = with_owner(same[at], operation.number, owner);
+    let entry = read(book, i);
+    let object = entry.object;
+    whole[object] = with_owner(whole[object], entry.number, entry.transaction);
+    same[i + 1] = with_owner(same[at], entry.number, entry.transaction);
 }
 
 pub fn conflicts(book: &[u32]) -> LogConflicts
@@ -236,7 +262,8 @@ pub fn conflicts(book: &[u32]) -> LogConflicts
     for i in 0..count {
         let at = latest(book, i, &heads, &links);
         let found = blocking(book, i, at, &whole, &same);
-        let requester = wide(layout::entry_transaction(book, i));
+        let entry = read(book, i);
+        let requester = wide(entry.transaction);
         dependencies[requester] = bitset::join(dependencies[requester], found.conflicting);
         unrecoverable = bitset::join(unrecoverable, found.unrecoverable);
         chain(book, i, &mut heads, &mut links);

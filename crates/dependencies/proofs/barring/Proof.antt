@@ -1,10 +1,9 @@
 -- `dependencies::barring`: the owners picked at the columns passed.
-use Prim.Native.Nat.{ℕ, _+_, _-_, _≤_, _<_}
-use mathlib.Core.Path.{_≡_, subst, _∙_}
+use Prim.Native.Nat.{_+_, _-_, _≤_, _<_}
+use mathlib.Core.Path.{_≡_}
 use native.Mathlib.Omega.{arith}
 use Rattle.bitset.specs.Bitset.{Holds}
-use Rattle.operations.specs.Operations.{Kind}
-use Rattle.operations.specs.PairRules.{Rules, recoverableRules, commutingRules}
+use Rattle.operations.specs.PairRules.{recoverableRules, commutingRules}
 use Rattle.pairs.specs.Laws.{Within}
 use Rattle.dependencies.specs.Dependencies.{kindNumbered, firstOf, lastOf, Picked}
 use Rattle.dependencies.specs.Laws.Numbers.{ranged, picked-none, picked-more}

@@ -6,7 +6,7 @@ use lib.ListN.{length, length-set}
 use Rattle.bitset.specs.Bitset.{Holds, Represents}
 use Rattle.operations.specs.PairRules.{commutes}
 use Rattle.store.specs.Layout.{word}
-use Rattle.dependencies.specs.Dependencies.{transactionAt, Readable, BarsBelow, Unrecoverable, Gathered, Chained}
+use Rattle.dependencies.specs.Dependencies.{Readable, BarsBelow, Unrecoverable, Gathered, Chained}
 use Rattle.dependencies.specs.Laws.Entries.{readable}
 use Rattle.dependencies.specs.Laws.Rows.{gathered-none}
 use Rattle.dependencies.specs.Laws.Chains.{chained-none}
@@ -41,65 +41,60 @@ loop-holds c =
       chained-none book 256 257 refl refl,
     )
 
+-- A turn, from the look-up of the entry on.
 abbrev entered : tie.In-loop Inv-loop μ-loop → tie.Start Inv-loop μ-loop
 entered c = c .before .before .before .before .before
 
-read : (c : tie.In-loop Inv-loop μ-loop) → Readable (entered c .args .book .now)
-read c = let start = entered c in readable (start .args .book .now) (start .pre .1) (start .pre .2) (start .pre .0)
-
-turn : (c : tie.In-loop Inv-loop μ-loop) → c .before .loop .i < word (entered c .args .book .now) 0
-turn c = omega (arith, c .loop-test .taken, c .before .before .before .entry-count .ensures)
+-- The entry is in the log.
+inside : (c : tie.In-loop Inv-loop μ-loop) → Readable (entered c .args .book .now) × (c .before .loop .i < word (entered c .args .book .now) 0)
+inside c =
+    let start = entered c in
+    (readable (start .args .book .now) (start .pre .1) (start .pre .2) (start .pre .0), omega (arith, c .loop-test .taken, c .before .before .before .entry-count .ensures))
 
 latest-requires : tie.Need-latest-requires Inv-loop μ-loop
-latest-requires c κs = let inside = c .before .before in (read inside, turn inside, inside .before .loop .inv .5)
+latest-requires c κs = let l = inside (c .before .before) in (l .0, l .1, c .before .before .before .loop .inv .5)
 
 blocking-requires : tie.Need-blocking-requires Inv-loop μ-loop
 blocking-requires c κs =
     let found = c .before .before in
-    let inside = found .before .before .before in
-    (read inside, turn inside, found .latest .ensures, inside .before .loop .inv .4)
+    let turn = found .before .before .before in
+    let l = inside turn in
+    (l .0, l .1, found .latest .ensures, turn .before .loop .inv .4)
 
-entry-transaction-requires : tie.Need-entry-transaction-requires Inv-loop μ-loop
-entry-transaction-requires c κs =
-    let inside = c .before .before .before .before .before .before in
-    (read inside .words, omega (arith, turn inside, read inside .entries))
-
-abbrev looked-up : tie.After-wide Inv-loop μ-loop → tie.In-loop Inv-loop μ-loop
-looked-up c = c .before .before .before .before .before .before .before .before
-
-requester : (c : tie.After-wide Inv-loop μ-loop) → c .wide .result ≡ transactionAt (entered (looked-up c) .args .book .now) (looked-up c .before .loop .i)
-requester c = c .wide .ensures ∙ c .before .entry-transaction .ensures
+abbrev turned : tie.After-wide Inv-loop μ-loop → tie.In-loop Inv-loop μ-loop
+turned c = c .before .before .before .before .before .before .before .before
 
 requester-below : (c : tie.After-wide Inv-loop μ-loop) → c .wide .result < 64
-requester-below c =
-    let inside = looked-up c in
-    omega (arith, requester c, read inside .transactions (inside .before .loop .i) (turn inside))
+requester-below c = omega (arith, c .wide .ensures, c .before .read .ensures .live)
 
 chain-requires : tie.Need-chain-requires Inv-loop μ-loop
-chain-requires c κs = let inside = looked-up (c .before .before .before .before) in (read inside, turn inside, inside .before .loop .inv .5)
+chain-requires c κs =
+    let turn = turned (c .before .before .before .before) in
+    let l = inside turn in
+    (l .0, l .1, turn .before .loop .inv .5)
 
 gather-requires : tie.Need-gather-requires Inv-loop μ-loop
 gather-requires c κs =
     let asked = c .before .before .before .before .before .before .before in
-    let inside = looked-up asked in
-    (read inside, turn inside, asked .before .before .before .before .before .latest .ensures, inside .before .loop .inv .4)
+    let turn = turned asked in
+    let l = inside turn in
+    (l .0, l .1, asked .before .before .before .before .before .latest .ensures, turn .before .loop .inv .4)
 
-counted : (c : tie.After-gather Inv-loop μ-loop) → (looked-up (c .before .before .before .before .before .before .before .before) .before .loop .i < word (entered (looked-up (c .before .before .before .before .before .before .before .before)) .args .book .now) 0) × (word (entered (looked-up (c .before .before .before .before .before .before .before .before)) .args .book .now) 0 ≤ 256)
-counted c = let inside = looked-up (c .before .before .before .before .before .before .before .before) in (turn inside, read inside .entries)
+abbrev asked : tie.After-gather Inv-loop μ-loop → tie.After-wide Inv-loop μ-loop
+asked c = c .before .before .before .before .before .before .before .before
 
 loop-again : tie.Need-loop-again Inv-loop μ-loop
 loop-again c =
+    let book = entered (turned (asked c)) .args .book .now in
+    let at-loop = turned (asked c) .before .loop in
     let joined = c .before .before .before .before .before .before in
-    let asked = joined .before .before in
-    let inside = looked-up asked in
-    let book = entered inside .args .book .now in
-    let at-loop = inside .before .loop in
-    let found = asked .before .before .blocking in
+    let read = asked c .before in
+    let found = read .before .blocking in
     let l : length (at-loop .dependencies) ≡ 64 = at-loop .inv .1 in (
-      omega (arith, turn inside),
+      omega (arith, inside (turned (asked c)) .1),
       simp length-set l,
-      dependencies-more book (at-loop .dependencies) (at-loop .i) (asked .wide .result) _ _ (requester asked) (omega (arith, requester-below asked)) (at-loop .inv .2)
-          (found .ensures .conflictings) (joined .before .join .ensures),
+      dependencies-more book (at-loop .dependencies) (at-loop .i) (asked c .wide .result) _ _ (asked c .wide .ensures ∙ read .read .ensures .of-transaction)
+          (omega (arith, requester-below (asked c))) (at-loop .inv .2) (found .ensures .conflictings) (joined .before .join .ensures),
       unrecoverable-more book (at-loop .i) _ _ _ (at-loop .inv .3) (found .ensures .unrecoverables) (joined .join2 .ensures),
       c .gather .ensures,
       c .before .before .before .chain .ensures,
@@ -124,7 +119,7 @@ conflicts-spec =
     loop-holds
     latest-requires
     blocking-requires
-    entry-transaction-requires
+    (λ c κs. inside (c .before .before .before .before .before .before))
     (λ c κs. tt)
     (λ c. omega (arith, requester-below c))
     (λ c. requester-below c)
@@ -134,7 +129,7 @@ conflicts-spec =
     (λ c κs. tt)
     chain-requires
     gather-requires
-    (λ c. omega (arith, counted c))
-    (λ c. omega (arith, counted c))
+    (λ c. omega (arith, inside (turned (asked c)) .1, inside (turned (asked c)) .0 .entries))
+    (λ c. omega (arith, inside (turned (asked c)) .1))
     loop-again
     returns-2)

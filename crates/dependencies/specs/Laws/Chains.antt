@@ -1,21 +1,16 @@
 -- Chains of entries: the latest of each, and the way back along one.
-use Prim.Native.Nat.{ℕ, _+_, _-_, _≤_, _<_}
+use Prim.Native.Nat.{ℕ, _+_, _-_, _<_}
 use mathlib.Core.Path.{_≡_, sym, ap₂, subst, subst₂, _∙_}
 use mathlib.Core.Bool.{true, false}
 use mathlib.Core.List.{List}
 use native.Mathlib.Omega.{arith}
 use borrow.Author.Tests.{ltb-true, ltb-false}
 use lib.Dec.{ltb}
-use lib.ListN.{length, getD, set, replicate, length-set, length-replicate}
+use lib.ListN.{getD, set, replicate, length-set, length-replicate}
 use lib.Seq.{getD-set-same, getD-set-other}
 use Rattle.operations.specs.Laws.Cases.{split, same}
-use Rattle.store.specs.Layout.{word}
-use Rattle.dependencies.specs.Dependencies.{objectAt, keyAt, Alike, Reached, Latest, slotOf, slotAt, In, Chained}
-use Rattle.dependencies.specs.Laws.Rows.{blank}
-
-pub slot-below : (object key : ℕ) → slotOf object key < 256
-unfolding slotOf
-slot-below object key = omega arith
+use Rattle.dependencies.specs.Dependencies.{Alike, Reached, Latest, slotOf, slotAt, In, Chained}
+use Rattle.dependencies.specs.Laws.Sets.{blank}
 
 one-slot : (w : List ℕ) (i j : ℕ) → Alike w i j → In w (slotAt w i) j
 one-slot w i j (o, k) = ap₂ slotOf o k

@@ -7,14 +7,14 @@ use mathlib.Core.Option.{some, Option·some-injective}
 use mathlib.Core.List.{List}
 use native.Mathlib.Nat.{not-suc-le-zero, zero-lt-suc}
 use native.Mathlib.Omega.{arith}
-use borrow.Author.Tests.{eq-eqb, eqb-true, ne-eqb}
+use borrow.Author.Tests.{eq-eqb, eqb-true}
 use lib.Dec.{eqb}
 use Rattle.operations.specs.Operations.{Kind, Operation, Reply, kindOf, All, reduceKey}
 use Rattle.operations.specs.Log.{Entry, Recovers, Recoverable}
 use Rattle.operations.specs.PairRules.{recoverable, commutes}
 use Rattle.operations.specs.Laws.Cases.{split}
 use Rattle.operations.specs.Laws.Objects.{object}
-use Rattle.store.specs.Store.{Logged, Object, objectOf, onObject, Live}
+use Rattle.store.specs.Store.{Logged, objectOf, onObject, Live}
 use Rattle.store.specs.Dependency.{Conflict, DependsOn}
 use Rattle.store.specs.Layout.{word, tabulate, entryAt, operationAt, base, decode, Packed}
 use Rattle.store.specs.Soundness.{EntriesLive, EntriesFit, EntriesRecoverable}

@@ -12,9 +12,8 @@ use Rattle.store.specs.Layout.{word, base, decode}
 use Rattle.store.specs.Soundness.{EntriesLive, EntriesFit, EntriesRecoverable}
 use Rattle.store.specs.Dependency.{DependsOn}
 use Rattle.dependencies.specs.Dependencies.{transactionAt, Bars, BarsBelow, Unrecoverable}
-use Rattle.dependencies.specs.Laws.Sets.{some-none, some-more, holds-none, holds-same, holds-join, holds-empty, represents-same, represents-join}
+use Rattle.dependencies.specs.Laws.Sets.{some-none, some-more, holds-none, holds-same, holds-join, holds-empty, represents-same, blank-row, represents-join}
 use Rattle.dependencies.specs.Laws.Entries.{recoverable-none, depends-bars}
-use Rattle.dependencies.specs.Laws.Rows.{blank-row}
 
 module _ (w : List ℕ) where
   pub dependencies-none : (n : ℕ) → Represents (replicate n 0) (BarsBelow commutes w 0)

@@ -1,8 +1,8 @@
 -- Operations by number: their kinds and columns, and what the rules pick.
 use Prim.Native.Nat.{ℕ, _+_, _-_, _≤_, _<_}
 use mathlib.Core.Path.{_≡_, refl, sym, ap, _∙_}
-use mathlib.Core.Bool.{Bool, true, false, _||_, _&&_, not, true≢false}
-use mathlib.Core.Logic.{_↔_, _⊎_, inl, inr}
+use mathlib.Core.Bool.{true, false, _||_, true≢false}
+use mathlib.Core.Logic.{_⊎_, inl, inr}
 use mathlib.Core.List.{List}
 use native.Mathlib.Omega.{arith}
 use borrow.Author.Tests.{le-leb, lt-leb, leb-true, leb-false, eqb-true, not-false}
@@ -12,8 +12,9 @@ use Rattle.operations.specs.Operations.{Kind, Stack, Set, Table, push, pop, top
 use Rattle.operations.specs.PairRules.{Rule, always, never, apart, Rules, allows, ruleAt, firstNumber, lastNumber}
 use Rattle.operations.specs.Laws.Cases.{split}
 use Rattle.bitset.specs.Bitset.{has, Members, Holds}
+use Rattle.bitset.specs.Laws.{empty}
 use Rattle.pairs.specs.Pairs.{codeOf, codeAt}
-use Rattle.dependencies.specs.Dependencies.{Some, Numbered, kindNumbered, firstOf, lastOf, columnOf, picked, pickedAt, Picked}
+use Rattle.dependencies.specs.Dependencies.{Numbered, kindNumbered, firstOf, lastOf, columnOf, picked, pickedAt, Picked}
 use Rattle.dependencies.specs.Laws.Sets.{some-none, some-more, holds-none, holds-same, holds-join}
 
 -- ---- Kinds
@@ -84,11 +85,11 @@ module _ (whole same b : ℕ) where
   picked-of o p always e h k = absurd (true≢false e)
   picked-of o p apart e h k = k (eqb-true (keyOf o) (keyOf p) (not-false (eqb (keyOf o) (keyOf p)) e))
 
-  pub picked-from : (rule : Rule) → has (picked rule whole same) b ≡ true → (has 0 b ≡ false)
+  pub picked-from : (rule : Rule) → has (picked rule whole same) b ≡ true
       → ((rule ≡ never) × (has whole b ≡ true)) ⊎ ((rule ≡ apart) × (has same b ≡ true))
-  picked-from never h none = inl (refl, h)
-  picked-from always h none = absurd (true≢false (sym h ∙ none))
-  picked-from apart h none = inr (refl, h)
+  picked-from never h = inl (refl, h)
+  picked-from always h = absurd (true≢false (sym h ∙ empty 0 .0 refl b))
+  picked-from apart h = inr (refl, h)
 
 -- ---- The columns in turn
 

@@ -1,25 +1,20 @@
--- Rows of owners: what an entry adds to them, and how they bar an entry.
-use Prim.Native.Nat.{ℕ, zero, suc, _+_, _-_, _≤_, _<_}
-use mathlib.Core.Path.{_≡_, refl, sym, ap, subst, _∙_}
-use mathlib.Core.Bool.{Bool, true, false, _&&_, not}
-use mathlib.Core.Logic.{_↔_, _⊎_, inl, inr, ⊎-elim}
+-- Rows of owners: what an entry adds to them.
+use Prim.Native.Nat.{ℕ, zero, suc, _+_, _≤_, _<_}
+use mathlib.Core.Path.{_≡_, refl, sym, _∙_}
+use mathlib.Core.Bool.{true, false}
+use mathlib.Core.Logic.{_⊎_, inl, inr, ⊎-elim}
 use mathlib.Core.List.{List, []}
 use native.Mathlib.Numerals.{add-one}
 use native.Mathlib.Omega.{arith}
-use borrow.Author.Tests.{eq-eqb, ltb-true, ltb-false}
-use lib.Dec.{eqb, ltb}
-use lib.ListN.{length, getD, set, replicate, length-set, length-replicate, getD-replicate}
+use borrow.Author.Tests.{ltb-true, ltb-false}
+use lib.Dec.{ltb}
+use lib.ListN.{getD, set, replicate, length-set, length-replicate}
 use lib.Seq.{getD-set-same, getD-set-other}
-use Rattle.operations.specs.Operations.{Kind, Operation, kindOf, numberOf, keyOf}
-use Rattle.operations.specs.PairRules.{Rule, never, apart, Rules, allows, ruleAt, ruleFor, related, firstNumber, lastNumber, recoverable, commutes, recoverableRules, commutingRules}
 use Rattle.operations.specs.Laws.Cases
 use Rattle.operations.specs.Laws.Cases.{split}
-use Rattle.bitset.specs.Bitset.{has, Members, Holds, Represents}
-use Rattle.bitset.specs.Laws.{empty}
-use Rattle.store.specs.Layout.{word, operationAt}
-use Rattle.dependencies.specs.Dependencies.{Some, transactionAt, objectAt, numberAt, keyAt, Readable, Fails, Bars, Barred, Numbered, kindNumbered, firstOf, lastOf, columnOf, picked, pickedAt, Picked, Owned, WithOwner, On, Alike, Gathered, Latest}
-use Rattle.dependencies.specs.Laws.Sets.{some-none, some-more, holds-none, holds-same, holds-without, represents-same}
-use Rattle.dependencies.specs.Laws.Numbers.{ranged, placed, picked-of, picked-from}
+use Rattle.bitset.specs.Bitset.{has, Represents}
+use Rattle.dependencies.specs.Dependencies.{transactionAt, numberAt, columnOf, Owned, WithOwner, EntryRead, On, Alike, Gathered, Latest}
+use Rattle.dependencies.specs.Laws.Sets.{some-more, blank, holds-none, represents-same}
 
 -- ---- One entry more
 
@@ -62,17 +57,19 @@ module _ (w : List ℕ) (i : ℕ) (whole same : List (List ℕ)) (g : Gathered w
           split (ltb k (j + 1)) (λ (e : ltb k (j + 1) ≡ true). (k, ltb-true k (j + 1) e, (own, c, t)))
           (λ (e : ltb k (j + 1) ≡ false). let past = ltb-false k (j + 1) e in absurd (r .later k (omega arith) n a))
 
-  pub gathered-more : (o p number owner : ℕ) (r s : List ℕ) → o ≡ objectAt w i → number ≡ numberAt w i → owner ≡ transactionAt w i → o < 16 → i < 256
-      → Latest (Alike w i) i p → WithOwner (getD whole o []) (columnOf number) owner r → WithOwner (getD same p []) (columnOf number) owner s
+  pub gathered-more : (t o number p : ℕ) (r s : List ℕ) → EntryRead w i t o number → i < 256 → Latest (Alike w i) i p
+      → WithOwner (getD whole o []) (columnOf number) t r → WithOwner (getD same p []) (columnOf number) t s
       → Gathered w (i + 1) (set whole o r) (set same (i + 1) s)
-  gathered-more o p number owner r s own en eo l n latest added added-alike =
+  gathered-more t o number p r s read n latest added added-alike =
+      let own = read .of-object in
+      let l = read .within in
       record {
         objects = length-set whole o r ∙ g .objects;
         entries = length-set same (i + 1) s ∙ g .entries;
         onObject = λ x m.
             Cases.same x o
             (λ (e : x ≡ o).
-            rw (e, getD-set-same whole o r [] (omega (arith, g .objects))) (row-added (On w o) w i (getD whole o []) (g .onObject o l) r (sym own) (rw (en, eo) at added)))
+            rw (e, getD-set-same whole o r [] (omega (arith, g .objects))) (row-added (On w o) w i (getD whole o []) (g .onObject o l) r (sym own) (rw (read .of-number, read .of-transaction) at added)))
             (λ (e : x ≡ o → ⊥).
             rw (getD-set-other whole o x r [] e) (row-kept (On w x) w i (getD whole x []) (g .onObject x m) (λ h. e (sym h ∙ sym own))));
         none = rw (getD-set-other same (i + 1) 0 s [] (λ e. omega arith)) (g .none);
@@ -80,25 +77,17 @@ module _ (w : List ℕ) (i : ℕ) (whole same : List (List ℕ)) (g : Gathered w
             Cases.same j i
             (λ (e : j ≡ i).
             rw (e, getD-set-same same (i + 1) s [] (omega (arith, g .entries)))
-            (row-added (Alike w i) w i (getD same p []) (row-alike p latest) s (refl, refl) (rw (en, eo) at added-alike)))
+            (row-added (Alike w i) w i (getD same p []) (row-alike p latest) s (refl, refl) (rw (read .of-number, read .of-transaction) at added-alike)))
             (λ (e : j ≡ i → ⊥).
             rw (getD-set-other same (i + 1) (j + 1) s [] (λ q. e (omega arith))) (g .alike j (omega arith)));
       }
 
 -- ---- No entry
 
-pub blank : (n a : ℕ) → getD {A = ℕ} (replicate n 0) a 0 ≡ 0
-blank zero a = refl
-blank (suc n) zero = refl
-blank (suc n) (suc a) = blank n a
-
 blank-rows : (n k o a : ℕ) → getD {A = ℕ} (getD (replicate n (replicate k 0)) o []) a 0 ≡ 0
 blank-rows zero k o a = refl
 blank-rows (suc n) k zero a = blank k a
 blank-rows (suc n) k (suc o) a = blank-rows n k o a
-
-pub blank-row : (n : ℕ) (R : ℕ → ℕ → Type 0) → ((a b : ℕ) → R a b → ⊥) → Represents (replicate n 0) R
-blank-row n R none a = rw (blank n a) (holds-none (R a) (none a))
 
 pub gathered-none : (w : List ℕ) (n m k : ℕ) → n ≡ 16 → m ≡ 257 → Gathered w 0 (replicate n (replicate k 0)) (replicate m (replicate k 0))
 gathered-none w n m k e f =
@@ -109,101 +98,3 @@ gathered-none w n m k e f =
       none = λ a. rw (blank-rows m k 0 a) (holds-none (λ b. ⊥) (λ b x. x));
       alike = λ j l. absurd (omega arith);
     }
-
--- ---- What bars an entry
-
-module _ (w : List ℕ) (readable : Readable w) where
-  number-read : (i : ℕ) → i < word w 0 → kindNumbered (numberAt w i) ≡ kindOf (operationAt w i)
-  number-read i l = ap kindNumbered (sym (readable .stored i l .0)) ∙ placed (operationAt w i) .0
-
-  pub numbered : (i : ℕ) → i < word w 0 → Numbered (numberAt w i)
-  numbered i l = subst Numbered (readable .stored i l .0) (placed (operationAt w i) .1)
-
-  module _ (i j : ℕ) (l : i < word w 0) (m : j < word w 0) (e : objectAt w j ≡ objectAt w i) where
-    kind-read : kindNumbered (numberAt w j) ≡ kindNumbered (numberAt w i)
-    kind-read = number-read j m ∙ (readable .kinds i j l m e ∙ sym (number-read i l))
-
-    -- The rule for the two operations, by the words.
-    rule-read : (rules : Kind → Rules) → ruleFor rules (operationAt w i) (operationAt w j)
-        ≡ ruleAt (rules (kindNumbered (numberAt w i))) (columnOf (numberAt w i)) (columnOf (numberAt w j))
-    rule-read rules = rw (kind-read, number-read i l, readable .stored i l .0, readable .stored j m .0)
-
-    column-below : columnOf (numberAt w j) < lastOf (numberAt w i) + 1 - firstOf (numberAt w i)
-    column-below =
-        let r = ranged (numberAt w j) (numbered j m) in
-        omega (arith, r .least, r .most, ap firstNumber kind-read, ap lastNumber kind-read)
-
-    key-read : keyAt w j ≡ keyAt w i → keyOf (operationAt w i) ≡ keyOf (operationAt w j)
-    key-read k = readable .stored i l .1 ∙ (sym k ∙ sym (readable .stored j m .1))
-
-    key-written : keyOf (operationAt w i) ≡ keyOf (operationAt w j) → keyAt w j ≡ keyAt w i
-    key-written k = sym (readable .stored j m .1) ∙ (sym k ∙ readable .stored i l .1)
-
-  module _ (i : ℕ) (l : i < word w 0) (whole same : List ℕ)
-      (held : Represents whole (Owned (On w (objectAt w i)) w i)) (held-alike : Represents same (Owned (Alike w i) w i)) (rules : Kind → Rules) where
-    abbrev Columns : ℕ → Type 0
-    Columns b = Picked rules (numberAt w i) whole same (lastOf (numberAt w i) + 1 - firstOf (numberAt w i)) b
-
-    abbrev ruleOf : ℕ → Rule
-    ruleOf m = ruleAt (rules (kindNumbered (numberAt w i))) (columnOf (numberAt w i)) m
-
-    -- An earlier entry of the object whose rule says no.
-    refused : (b m j : ℕ) (r : Rule) → (b ≡ transactionAt w i → ⊥) → j < i → objectAt w j ≡ objectAt w i → columnOf (numberAt w j) ≡ m → transactionAt w j ≡ b
-        → ruleOf m ≡ r → allows r (operationAt w i) (operationAt w j) ≡ false → Bars (related rules) w i b
-    refused b m j r other n o c t e f = (
-      j,
-      n,
-      (
-        t,
-        record {
-          object = o;
-          other = λ q. other (sym t ∙ q);
-          fails = ap (λ (x : Rule). allows x (operationAt w i) (operationAt w j)) (rule-read i j l (omega arith) o rules ∙ (ap ruleOf c ∙ e)) ∙ f;
-        },
-      ),
-    )
-
-    picked-bars : (b : ℕ) → Columns b × (b ≡ transactionAt w i → ⊥) → Bars (related rules) w i b
-    picked-bars b ((m, n, h), other) =
-        ⊎-elim
-        (λ p. let (j, k, (o, c, t)) = held m b .0 (p .1) in refused b m j never other k o c t (p .0) refl)
-        (λ p.
-        let (j, k, ((o, key), c, t)) = held-alike m b .0 (p .1) in
-        refused b m j apart other k o c t (p .0)
-        (rw (eq-eqb (keyOf (operationAt w i)) (keyOf (operationAt w j)) (key-read i j l (omega arith) o key))))
-        (picked-from (getD whole m 0) (getD same m 0) b (ruleOf m) h (empty 0 .0 refl b))
-
-    bars-picked : (b : ℕ) → Bars (related rules) w i b → Columns b × (b ≡ transactionAt w i → ⊥)
-    bars-picked b (j, n, (t, f)) =
-        let k : j < word w 0 = omega arith in
-        let o = f .object in
-        let m = columnOf (numberAt w j) in (
-          (
-            m,
-            column-below i j l k o,
-            picked-of (getD whole m 0) (getD same m 0) b (operationAt w i) (operationAt w j) (ruleOf m)
-                (ap (λ (x : Rule). allows x (operationAt w i) (operationAt w j)) (sym (rule-read i j l k o rules)) ∙ f .fails)
-                (held m b .1 (j, n, (o, refl, t))) (λ key. held-alike m b .1 (j, n, ((o, key-written i j l k o key), refl, t))),
-          ),
-          λ q. f .other (t ∙ q),
-        )
-
-    pub bars : (s u : ℕ) → Holds s Columns → Members u (λ b. has s b && not (eqb b (transactionAt w i))) → Holds u (Bars (related rules) w i)
-    bars s u h without =
-        holds-same (λ b. Columns b × (b ≡ transactionAt w i → ⊥)) (Bars (related rules) w i) u (holds-without Columns s (transactionAt w i) u h without)
-        (λ b. (picked-bars b, bars-picked b))
-
-  pub barred : (i : ℕ) → i < word w 0 → (whole same : List (List ℕ)) → Gathered w i whole same → (o p number owner u v u′ v′ : ℕ)
-      → o ≡ objectAt w i → number ≡ numberAt w i → owner ≡ transactionAt w i → Latest (Alike w i) i p
-      → Holds u (Picked recoverableRules number (getD whole o []) (getD same p []) (lastOf number + 1 - firstOf number))
-      → Holds v (Picked commutingRules number (getD whole o []) (getD same p []) (lastOf number + 1 - firstOf number))
-      → Members u′ (λ b. has u b && not (eqb b owner)) → Members v′ (λ b. has v b && not (eqb b owner)) → Barred w i u′ v′
-  barred i l whole same g o p number owner u v u′ v′ own en eo latest picked-u picked-v without-u without-v =
-      let held = g .onObject (objectAt w i) (readable .objects i l) in
-      let held-alike = row-alike w i whole same g p latest in
-      record {
-        unrecoverables =
-            bars i l (getD whole (objectAt w i) []) (getD same p []) held held-alike recoverableRules u u′ (rw (own, en) at picked-u) (rw eo at without-u);
-        conflictings =
-            bars i l (getD whole (objectAt w i) []) (getD same p []) held held-alike commutingRules v v′ (rw (own, en) at picked-v) (rw eo at without-v);
-      }

@@ -1,5 +1,5 @@
 -- What the operations on sets make of the predicates that tell their members.
-use Prim.Native.Nat.{ℕ, _+_, _<_}
+use Prim.Native.Nat.{ℕ, zero, suc, _+_, _<_}
 use mathlib.Core.Path.{_≡_, refl, sym, subst, _∙_}
 use mathlib.Core.Bool.{Bool, true, false, not, _&&_, _||_, true≢false, and-eq-true-iff}
 use mathlib.Core.Logic.{_↔_, _⊎_, inl, inr, ⊎-elim}
@@ -7,7 +7,7 @@ use mathlib.Core.List.{List}
 use native.Mathlib.Omega.{arith}
 use borrow.Author.Tests.{eqb-true, eqb-false, eq-eqb, ne-eqb, not-true}
 use lib.Dec.{eqb}
-use lib.ListN.{getD, set, length}
+use lib.ListN.{getD, set, length, replicate}
 use lib.Seq.{getD-set-same, getD-set-other}
 use Rattle.operations.specs.Laws.Cases.{split, same}
 use Rattle.bitset.specs.Bitset.{has, Members, Holds, Represents}
@@ -63,6 +63,15 @@ holds-empty P s p = (
 
 pub represents-same : (R S : ℕ → ℕ → Type 0) (row : List ℕ) → Represents row R → ((a b : ℕ) → R a b ↔ S a b) → Represents row S
 represents-same R S row r e a = holds-same (R a) (S a) (getD row a 0) (r a) (e a)
+
+-- Empty sets.
+pub blank : (n a : ℕ) → getD {A = ℕ} (replicate n 0) a 0 ≡ 0
+blank zero a = refl
+blank (suc n) zero = refl
+blank (suc n) (suc a) = blank n a
+
+pub blank-row : (n : ℕ) (R : ℕ → ℕ → Type 0) → ((a b : ℕ) → R a b → ⊥) → Represents (replicate n 0) R
+blank-row n R none a = rw (blank n a) (holds-none (R a) (none a))
 
 -- One set joined with another, at place t.
 pub represents-join : (R : ℕ → ℕ → Type 0) (Q : ℕ → Type 0) (row : List ℕ) (t s u : ℕ) → Represents row R → Holds s Q → t < length row
