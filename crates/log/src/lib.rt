@@ -20,12 +20,6 @@ ghost use Rattle.log.specs.Log.{LogPacked, StoredWords, kindBy, LiveSet,
 // Reduced keys are below this.
 const KEYS: u32 = 16_777_216;
 
-fn wide(x: u32) -> usize
-    ensures { λ r. ⌜ r ≡ x ⌝ }
-{
-    x as usize
-}
-
 // Whether the words are those that are stored for an operation: its number is in range, and an argument that it does not use is 0.
 fn is_stored(operation: Operation) -> bool
     ensures { λ r. ⌜ (r ≡ true) ↔ StoredWords (operation .number) (operation .key) (operation .value) ⌝ }
@@ -85,7 +79,7 @@ fn is_live(book: &[u32], live: u64, i: usize) -> bool
     ensures { λ r. ⌜ (r ≡ true) ↔ Live (decode base (now (book .entry))) (word (now (book .entry)) (entryStart i)) ⌝ }
 {
     let transaction = layout::entry_transaction(book, i);
-    if wide(transaction) >= layout::TRANSACTIONS {
+    if layout::wide(transaction) >= layout::TRANSACTIONS {
         return false;
     }
     bitset::contains(live, transaction)
@@ -95,7 +89,7 @@ fn of_kind(book: &[u32], i: usize) -> bool
     requires { ⌜ Packed base (now book) × (i < word (now book) 0) ⌝ }
     ensures { λ r. ⌜ (r ≡ true) ↔ (objectOf (decode base (now (book .entry))) (word (now (book .entry)) (entryStart i + 1)) .kind ≡ some (model.kindOf (operationAt (now (book .entry)) i))) ⌝ }
 {
-    let object = wide(layout::entry_object(book, i));
+    let object = layout::wide(layout::entry_object(book, i));
     if object >= layout::OBJECTS {
         return false;
     }
@@ -199,9 +193,7 @@ fn clear(book: &mut [u32], start: usize, end: usize)
     requires { ⌜ (start ≤ end) × (end ≤ length (now book)) ⌝ }
     ensures { λ r. ⌜ now (book .exit) ≡ sets (now (book .entry)) start (replicate (end - start) 0) ⌝ }
 {
-    for i in start..end {
-        book[i] = 0;
-    }
+    layout::clear(&mut book[start..end]);
 }
 
 // The entries of one transaction leave the log.

@@ -3,8 +3,9 @@ use Prim.Native.Nat.{ℕ, suc, _+_, _-_, _≤_, _<_}
 use mathlib.Core.Path.{_≡_, refl, sym, ap, ap₂, _∙_}
 use mathlib.Core.List.{List, [], _∷_, _++_, append-assoc}
 use native.Mathlib.Omega.{arith}
-use lib.ListN.{length, set, replicate, length-append, length-replicate, replicate-append-replicate}
-use lib.Seq.{sets, sets-eq, getD-set-other, take-append-seam, drop-append-add, drop-at}
+use borrow.Rule.Slice.PartMut.{midOf, putMid}
+use lib.ListN.{length, set, take, drop, replicate, length-append, length-drop, length-replicate, replicate-append-replicate}
+use lib.Seq.{sets, sets-eq, getD-set-other, length-take-le, take-append-seam, drop-append-add, drop-at, drop-drop}
 use Rattle.store.specs.Layout.{word, padded}
 
 module _ {A : Type 0} where
@@ -34,26 +35,19 @@ sets-past l i (v ∷ vs) j m = sets-past (set l i v) (suc i) vs j (omega arith) 
 abbrev pub zeros : ℕ → List ℕ
 zeros n = replicate n 0
 
-sets-zero : (l : List ℕ) (a n : ℕ) → set (sets l a (zeros n)) (a + n) 0 ≡ sets l a (zeros (n + 1))
-sets-zero l a n =
-    ap (λ (k : ℕ). set (sets l a (zeros n)) (a + k) 0) (sym (length-replicate n 0)) ∙ sets-append l a (zeros n) (0 ∷ [])
-    ∙ ap (sets l a) (replicate-append-replicate n 1 0)
+-- Zeros from place a to place b.
+module _ (l : List ℕ) (a b : ℕ) where
+  abbrev pub Cleared : List ℕ → Type 0
+  Cleared m = m ≡ sets l a (zeros (b - a))
 
--- Zeros from place a to place i, one after the other.
-module _ (l : List ℕ) (a : ℕ) where
-  abbrev pub Cleared : ℕ → List ℕ → Type 0
-  Cleared i m = m ≡ sets l a (zeros (i - a))
-
-  pub cleared-none : Cleared a l
-  cleared-none =
-      let e : a - a ≡ 0 = omega arith in
-      rw e
-
-  pub cleared-next : (i : ℕ) (m : List ℕ) → a ≤ i → Cleared i m → Cleared (i + 1) (set m i 0)
-  cleared-next i m h e =
-      let here : i ≡ a + (i - a) = omega arith in
-      let more : (i - a) + 1 ≡ i + 1 - a = omega arith in
-      ap₂ (λ (b : List ℕ) (n : ℕ). set b n 0) e here ∙ sets-zero l a (i - a) ∙ ap (λ (n : ℕ). sets l a (zeros n)) more
+  pub part-cleared : (part : List ℕ) → a ≤ b → b ≤ length l → part ≡ zeros (length (midOf a (b - a) l)) → Cleared (putMid a (b - a) l part)
+  part-cleared part h k e =
+      let n = b - a in
+      let size : length (midOf a n l) ≡ n = length-take-le n (drop a l) (rw length-drop (omega arith)) in
+      let many : length (zeros n) ≡ n = length-replicate n 0 in
+      let fits : a + length (zeros n) ≤ length l = omega arith in
+      ap₂ (λ (p r : List ℕ). take a l ++ (p ++ r)) (e ∙ ap zeros size) (drop-drop n a l ∙ ap (λ (m : ℕ). drop (a + m) l) (sym many))
+      ∙ sym (append-assoc (take a l) (zeros n) (drop (a + length (zeros n)) l)) ∙ sym (sets-eq (zeros n) l a fits)
 
 -- Seven words, one by one.
 pub sets-seven : (l : List ℕ) (s a b c d e f g : ℕ)
