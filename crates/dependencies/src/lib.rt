@@ -35,12 +35,6 @@ struct Entry {
 // The owners of some entries, a set for each operation of the object's kind.
 type Owners = [u64; 5];
 
-fn wide(x: u32) -> usize
-    ensures { λ r. ⌜ r ≡ x ⌝ }
-{
-    x as usize
-}
-
 // ---- Operations by number
 
 // The first number of a number's kind.
@@ -120,7 +114,7 @@ fn barring(number: u32, whole: Owners, same: Owners) -> Blockers
     let mut unrecoverable: u64 = 0;
     let mut conflicting: u64 = 0;
     for logged in start..end {
-        let at = wide(logged - start);
+        let at = layout::wide(logged - start);
         unrecoverable = bitset::join(
             unrecoverable,
             pick(recoverable_rule(number, logged), whole[at], same[at]),
@@ -142,7 +136,7 @@ fn with_owner(row: Owners, number: u32, owner: u32) -> Owners
     ensures { λ r. ⌜ WithOwner row (columnOf number) owner r ⌝ }
 {
     let mut row = row;
-    let at = wide(number - first(number));
+    let at = layout::wide(number - first(number));
     row[at] = bitset::join(row[at], bitset::single(owner));
     row
 }
@@ -169,7 +163,7 @@ fn slot(book: &[u32], i: usize) -> usize
     ensures { λ r. ⌜ (r ≡ slotAt (now (book .entry)) i) × (r < 256) ⌝ }
 {
     let operation = layout::entry_operation(book, i);
-    wide((operation.key % 256 + 16 * layout::entry_object(book, i)) % 256)
+    layout::wide((operation.key % 256 + 16 * layout::entry_object(book, i)) % 256)
 }
 
 // The latest earlier entry with the object and key of entry `i`.
@@ -206,7 +200,7 @@ fn read(book: &[u32], i: usize) -> Entry
     let operation = layout::entry_operation(book, i);
     Entry {
         transaction: layout::entry_transaction(book, i),
-        object: wide(layout::entry_object(book, i)),
+        object: layout::wide(layout::entry_object(book, i)),
         number: operation.number,
     }
 }
@@ -263,7 +257,7 @@ pub fn conflicts(book: &[u32]) -> LogConflicts
         let at = latest(book, i, &heads, &links);
         let found = blocking(book, i, at, &whole, &same);
         let entry = read(book, i);
-        let requester = wide(entry.transaction);
+        let requester = layout::wide(entry.transaction);
         dependencies[requester] = bitset::join(dependencies[requester], found.conflicting);
         unrecoverable = bitset::join(unrecoverable, found.unrecoverable);
         chain(book, i, &mut heads, &mut links);
