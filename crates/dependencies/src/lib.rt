@@ -51,6 +51,20 @@ fn first(number: u32) -> u32
     7
 }
 
+// The last.
+fn last(number: u32) -> u32
+    requires { ⌜ Numbered number ⌝ }
+    ensures { λ r. ⌜ r ≡ lastOf number ⌝ }
+{
+    if number <= 3 {
+        return 3;
+    }
+    if number <= 6 {
+        return 6;
+    }
+    11
+}
+
 // The codes of the rules for two operations of one kind.
 
 fn recoverable_rule(requested: u32, logged: u32) -> u8
@@ -90,11 +104,13 @@ fn pick(rule: u8, whole: u64, same: u64) -> u64
     }
 }
 
-// The owners that bar an operation, out of those on its object and those with its key too; its kind's numbers go from `start` to below `end`.
-fn barring_among(number: u32, start: u32, end: u32, whole: Owners, same: Owners) -> Blockers
-    requires { ⌜ Numbered number × (start ≡ firstOf number) × (end ≡ lastOf number + 1) ⌝ }
+// The owners that bar an operation, out of those on its object and those with its key too.
+fn barring(number: u32, whole: Owners, same: Owners) -> Blockers
+    requires { ⌜ Numbered number ⌝ }
     ensures { λ r. ⌜ Holds (r .unrecoverable) (Picked recoverableRules number whole same (widthOf number)) × Holds (r .conflicting) (Picked commutingRules number whole same (widthOf number)) ⌝ }
 {
+    let start = first(number);
+    let end = last(number) + 1;
     let mut unrecoverable: u64 = 0;
     let mut conflicting: u64 = 0;
     for logged in start..end {
@@ -112,20 +128,6 @@ fn barring_among(number: u32, start: u32, end: u32, whole: Owners, same: Owners)
         unrecoverable: unrecoverable,
         conflicting: conflicting,
     }
-}
-
-// Kind by kind, so that each is compiled for its own few numbers.
-fn barring(number: u32, whole: Owners, same: Owners) -> Blockers
-    requires { ⌜ Numbered number ⌝ }
-    ensures { λ r. ⌜ Holds (r .unrecoverable) (Picked recoverableRules number whole same (widthOf number)) × Holds (r .conflicting) (Picked commutingRules number whole same (widthOf number)) ⌝ }
-{
-    if number <= 3 {
-        return barring_among(number, 1, 4, whole, same);
-    }
-    if number <= 6 {
-        return barring_among(number, 4, 7, whole, same);
-    }
-    barring_among(number, 7, 12, whole, same)
 }
 
 // The row with an owner more, at the column of an operation.

@@ -33,9 +33,6 @@ numbered-table number l =
     let m : 3 < number = omega arith in
     rw (lt-leb number 3 m, lt-leb number 6 l)
 
-pub kind-range : (number : ℕ) (kind : Kind) → kindNumbered number ≡ kind → (firstNumber kind ≡ firstOf number) × (lastNumber kind + 1 ≡ lastOf number + 1)
-kind-range number kind e = (sym (ap firstNumber e), sym (ap (λ (k : Kind). lastNumber k + 1) e))
-
 -- The range of a number's kind.
 pub record Ranged (number : ℕ) : Type 0 where
   pub least : firstOf number ≤ number

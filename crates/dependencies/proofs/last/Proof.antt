@@ -1,0 +1,18 @@
+-- `dependencies::last` meets its contract.
+use mathlib.Core.Path.{sym, ap}
+use Rattle.operations.specs.PairRules.{lastNumber}
+use Rattle.dependencies.specs.Laws.Numbers.{numbered-stack, numbered-set, numbered-table}
+use Rattle.dependencies.proofs.last.Statement.{statement}
+use Rattle.dependencies.proofs.last.Tie as tie
+
+returns : tie.Need-returns
+returns c = ap lastNumber (sym (numbered-stack _ (c .if1 .taken)))
+
+returns-2 : tie.Need-returns-2
+returns-2 c = ap lastNumber (sym (numbered-set _ (c .before .if1 .left) (c .if2 .taken)))
+
+returns-3 : tie.Need-returns-3
+returns-3 c = ap lastNumber (sym (numbered-table _ (c .if2 .left)))
+
+pub last-spec : {M : Type 1} → statement M
+last-spec = tie.close (tie.spec returns returns-2 returns-3)
