@@ -6,3 +6,4 @@ pub mod Encoding
 pub mod Objects
 pub mod Empty
 pub mod Ways
+pub mod Cycles

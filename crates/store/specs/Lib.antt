@@ -5,4 +5,3 @@ pub mod Soundness
 pub mod Steps
 pub mod Laws
 pub mod Theorems
-pub mod CycleTheorems

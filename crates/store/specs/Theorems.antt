@@ -1,15 +1,25 @@
--- Document 01, "The book": a store and the words that hold it say the same.
-use Prim.Native.Nat.{ℕ}
+-- What holds of the store (document 01, "The book"), its words and its dependencies.
+use Prim.Native.Nat.{ℕ, _<_}
 use mathlib.Core.Path.{_≡_}
+use mathlib.Core.Logic.{_↔_}
 use mathlib.Core.List.{List}
-use lib.ListN.{replicate, length-replicate}
-use Rattle.store.specs.Store.{Store}
+use lib.Dec.{eqb}
+use lib.ListN.{length, replicate, length-replicate}
+use Rattle.operations.specs.Operations.{Kind}
+use Rattle.operations.specs.Log.{Commuting}
+use Rattle.operations.specs.Laws.Objects.{object}
+use Rattle.store.specs.Store.{Logged, Store, Active, PseudoCommitted, onObject}
+use Rattle.store.specs.Dependency.{DependsOn, Path, OnCycle}
 use Rattle.store.specs.Layout.{encode, decode, Packed, Representable, base}
-use Rattle.store.specs.Soundness.{Sound}
+use Rattle.store.specs.Soundness.{Acyclic, Dependent, Sound}
 use Rattle.store.specs.Laws.Words.{zeros-word}
 use Rattle.store.specs.Laws.Encoding.{decoded-representable, encoded-decoded, decoded-encoded, encoded-packed}
 use Rattle.store.specs.Laws.Objects.{base-laid}
 use Rattle.store.specs.Laws.Empty.{base-zeros-sound}
+use Rattle.store.specs.Laws.Cycles as cycles
+use Rattle.store.specs.Laws.Dependencies.{ready-commuting, commuting-ready}
+
+-- ---- Layout
 
 -- A packed book is the encoding of its decoding,
 pub encoded : (w : List ℕ) → Packed base w → encode base (decode base w) ≡ w
@@ -30,3 +40,19 @@ packed = encoded-packed base base-laid
 -- A book of zeros is sound.
 pub zeros-sound : Sound base (replicate 3_937 0)
 zeros-sound = base-zeros-sound (replicate 3_937 0) (zeros-word 3_937) (length-replicate {A = ℕ} 3_937 0)
+
+-- ---- Dependency
+
+-- A transaction depends on nobody exactly where each of its entries commutes with every earlier entry of another on its object: what
+-- `committing` asks of one that commits.
+pub depends-on-nobody : (reduce : ℕ → ℕ) (kind : Kind) (t : ℕ) (log : List Logged)
+    → ((u : ℕ) → DependsOn log t u → ⊥) ↔ ((o : ℕ) → Commuting (object reduce kind) (λ h. eqb h t) (onObject o log))
+depends-on-nobody reduce kind t log = (ready-commuting reduce kind t log, commuting-ready reduce kind t log)
+
+-- A cycle of at most 64 steps is there exactly where one of any length is.
+pub cycle-any-length : (s : Store) → length (s .statuses) ≡ 64 → (t : ℕ) → t < 64 → OnCycle s t ↔ Path (DependsOn (s .log)) (PseudoCommitted s) t t
+cycle-any-length = cycles.cycle-any-length
+
+-- Document 01: "When no handout is open, none is left finished."
+pub none-left : (s : Store) → length (s .statuses) ≡ 64 → Acyclic s → Dependent s → ((t : ℕ) → Active s t → ⊥) → (t : ℕ) → PseudoCommitted s t → ⊥
+none-left = cycles.none-left

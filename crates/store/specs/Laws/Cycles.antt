@@ -1,4 +1,4 @@
--- Document 01, on circles (cycles): a cycle's length does not matter, and "when no handout is open, none is left finished".
+-- Cycles of a store's dependencies.
 use Prim.Native.Nat.{ℕ, _≤_, _<_}
 use mathlib.Core.Path.{_≡_, refl}
 use mathlib.Core.Logic.{_↔_}
