@@ -70,12 +70,15 @@ fn object_answered(book: &[u32], object: usize) -> bool
         if used > ROWS {
             return false;
         }
-        let given = replay::reply(&rows, count, operation);
+        let at = replay::place(&rows, count, operation);
+        let given = replay::reply(&rows, count, at, operation);
         if !same_reply(given, layout::entry_answer(book, i)) {
             return false;
         }
-        let next = replay::next_count(&rows, count, operation);
-        rows = replay::next_rows(rows, count, operation);
+        let next = replay::next_count(&rows, count, at, operation);
+        if !replay::keeps_rows(&rows, count, at, operation) {
+            rows = replay::next_rows(rows, count, at, operation);
+        }
         count = next;
         i = next_entry(book, object, i + 1);
     }

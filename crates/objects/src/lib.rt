@@ -149,8 +149,9 @@ fn fold_part(part: &mut [u32], operation: Operation)
 {
     let count = layout::wide(part[1]);
     let rows = layout::copied(&part[2..], count);
-    let next = replay::next_count(&rows, count, operation);
-    let rows = replay::next_rows(rows, count, operation);
+    let at = replay::place(&rows, count, operation);
+    let next = replay::next_count(&rows, count, at, operation);
+    let rows = replay::next_rows(rows, count, at, operation);
     write_object(part, &rows[..next]);
 }
 

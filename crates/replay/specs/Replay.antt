@@ -1,5 +1,5 @@
 -- What replay says of a copy of 64 pairs, of which the first `count` are rows.
-use Prim.Native.Nat.{ℕ, suc}
+use Prim.Native.Nat.{ℕ, suc, _≤_}
 use mathlib.Core.Path.{_≡_}
 use mathlib.Core.Option.{Option, none, some}
 use mathlib.Core.List.{List, [], _∷_, _++_, map}
@@ -37,6 +37,10 @@ replyOf o rs = replyBy (operationOf o) rs
 abbrev pub positionOf : ℕ → List model.Row → ℕ
 positionOf k [] = 0
 positionOf k (r ∷ rs) = model.byOrder (r .key) k (suc (positionOf k rs)) 0 0
+
+-- A place as replay is handed it: where the operation may have a key, the key's position. A stack's operations, numbers 1 to 3, have none.
+abbrev pub Placed : Operation → List model.Row → ℕ → Type 0
+Placed o rs at = 4 ≤ o .number → at ≡ positionOf (o .key) rs
 
 module _ {A : Type 0} where
   -- The list with x at place i, and with what stands at place i left out.

@@ -2,25 +2,40 @@
 use operations::Operation;
 use operations::Reply;
 ghost use mathlib.Core.Path.{_≡_};
+ghost use mathlib.Core.Bool.{true};
 ghost use mathlib.Core.List.{map};
 ghost use Prim.Native.Nat.{_+_, _-_, _<_, _≤_};
 ghost use lib.ListN.{length, take};
 ghost use Rattle.operations.specs.Operations.{flag as Flag, valued, topItem, found, present as Present, inserted as Inserted, deleted as Deleted, modified as Modified};
 ghost use Rattle.operations.specs.Stored.{asReply};
-ghost use Rattle.replay.specs.Replay.{nextOf, replyOf, rowOf, rowsOf, Holds, positionOf, putAt, removedAt};
+ghost use Rattle.replay.specs.Replay.{nextOf, replyOf, rowOf, rowsOf, Holds, Placed, positionOf, putAt, removedAt};
 
 // The place of the first key that is not below `key`, or the number of rows.
-fn position(rows: &[[u32; 2]], key: u32) -> usize
-    ensures { λ r. ⌜ r ≡ positionOf key (map rowOf (now (rows .entry))) ⌝ }
+pub fn position(rows: &[[u32; 2]; 64], count: usize, key: u32) -> usize
+    requires { ⌜ count ≤ 64 ⌝ }
+    ensures { λ r. ⌜ r ≡ positionOf key (rowsOf (now (rows .entry)) count) ⌝ }
 {
+    let whole = &rows[..];
+    let filled = &whole[..count];
     let mut at: usize = 0;
-    while at < rows.len() {
-        if rows[at][0] >= key {
+    while at < filled.len() {
+        if filled[at][0] >= key {
             return at;
         }
         at += 1;
     }
     at
+}
+
+// The place for an operation: its key is looked up once, and what replays it is handed the place.
+pub fn place(rows: &[[u32; 2]; 64], count: usize, operation: Operation) -> usize
+    requires { ⌜ count ≤ 64 ⌝ }
+    ensures { λ r. ⌜ Placed operation (rowsOf (now (rows .entry)) count) r ⌝ }
+{
+    if operation.number < 4 {
+        return 0;
+    }
+    position(rows, count, operation.key)
 }
 
 // Whether a row has the key, whose position is given.
@@ -34,19 +49,11 @@ fn present(rows: &[[u32; 2]], at: usize, key: u32) -> bool
     false
 }
 
-fn contains(rows: &[[u32; 2]], key: u32) -> bool
-    ensures { λ r. ⌜ r ≡ Present key (map rowOf (now (rows .entry))) ⌝ }
+// Puts the pair in at a place; the row there and those after it move up.
+fn open_at(rows: &mut [[u32; 2]; 64], count: usize, at: usize, pair: [u32; 2])
+    requires { ⌜ (at ≤ count) × (count < 64) × (length (now rows) ≡ 64) ⌝ }
+    ensures { λ r. ⌜ take (count + 1) (now (rows .exit)) ≡ putAt at pair (take count (now (rows .entry))) ⌝ }
 {
-    let at = position(rows, key);
-    present(rows, at, key)
-}
-
-// The rows with the pair put in at a place; the row there and those after it move up.
-fn opened(rows: [[u32; 2]; 64], count: usize, at: usize, pair: [u32; 2]) -> [[u32; 2]; 64]
-    requires { ⌜ (at ≤ count) × (count < 64) ⌝ }
-    ensures { λ r. ⌜ take (count + 1) r ≡ putAt at pair (take count rows) ⌝ }
-{
-    let mut rows = rows;
     let mut carried = pair;
     let mut i = at;
     while i < count {
@@ -56,81 +63,95 @@ fn opened(rows: [[u32; 2]; 64], count: usize, at: usize, pair: [u32; 2]) -> [[u3
         i += 1;
     }
     rows[count] = carried;
-    rows
 }
 
-// The rows without the one at a place; those after it move down.
-fn closed(rows: [[u32; 2]; 64], count: usize, at: usize) -> [[u32; 2]; 64]
-    requires { ⌜ (at < count) × (count ≤ 64) ⌝ }
-    ensures { λ r. ⌜ take (count - 1) r ≡ removedAt at (take count rows) ⌝ }
+// Leaves out the row at a place; those after it move down.
+fn close_at(rows: &mut [[u32; 2]; 64], count: usize, at: usize)
+    requires { ⌜ (at < count) × (count ≤ 64) × (length (now rows) ≡ 64) ⌝ }
+    ensures { λ r. ⌜ take (count - 1) (now (rows .exit)) ≡ removedAt at (take count (now (rows .entry))) ⌝ }
 {
-    let mut rows = rows;
     let mut i = at;
     while i + 1 < count {
         let moved = rows[i + 1];
         rows[i] = moved;
         i += 1;
     }
-    rows
 }
 
-fn inserted(rows: [[u32; 2]; 64], count: usize, key: u32, value: u32) -> [[u32; 2]; 64]
-    requires { ⌜ (count ≤ 64) × (length (Inserted key value (rowsOf rows count)) ≤ 64) ⌝ }
-    ensures { λ r. ⌜ Holds r (Inserted key value (rowsOf rows count)) ⌝ }
+fn insert(rows: &mut [[u32; 2]; 64], count: usize, at: usize, key: u32, value: u32)
+    requires { ⌜ (count ≤ 64) × (length (Inserted key value (rowsOf (now rows) count)) ≤ 64) × (at ≡ positionOf key (rowsOf (now rows) count)) ⌝ }
+    ensures { λ r. ⌜ Holds (now (rows .exit)) (Inserted key value (rowsOf (now (rows .entry)) count)) ⌝ }
 {
-    let filled = &rows[..count];
-    let at = position(filled, key);
-    if present(filled, at, key) {
-        return rows;
+    let whole = &rows[..];
+    if !present(&whole[..count], at, key) {
+        open_at(rows, count, at, [key, value]);
     }
-    opened(rows, count, at, [key, value])
 }
 
-fn deleted(rows: [[u32; 2]; 64], count: usize, key: u32) -> [[u32; 2]; 64]
-    requires { ⌜ count ≤ 64 ⌝ }
-    ensures { λ r. ⌜ Holds r (Deleted key (rowsOf rows count)) ⌝ }
+fn delete(rows: &mut [[u32; 2]; 64], count: usize, at: usize, key: u32)
+    requires { ⌜ (count ≤ 64) × (at ≡ positionOf key (rowsOf (now rows) count)) ⌝ }
+    ensures { λ r. ⌜ Holds (now (rows .exit)) (Deleted key (rowsOf (now (rows .entry)) count)) ⌝ }
 {
-    let filled = &rows[..count];
-    let at = position(filled, key);
-    if present(filled, at, key) {
-        return closed(rows, count, at);
+    let whole = &rows[..];
+    if present(&whole[..count], at, key) {
+        close_at(rows, count, at);
     }
-    rows
 }
 
-fn modified(rows: [[u32; 2]; 64], count: usize, key: u32, value: u32) -> [[u32; 2]; 64]
-    requires { ⌜ count ≤ 64 ⌝ }
-    ensures { λ r. ⌜ Holds r (Modified key value (rowsOf rows count)) ⌝ }
+fn modify(rows: &mut [[u32; 2]; 64], count: usize, at: usize, key: u32, value: u32)
+    requires { ⌜ (count ≤ 64) × (at ≡ positionOf key (rowsOf (now rows) count)) ⌝ }
+    ensures { λ r. ⌜ Holds (now (rows .exit)) (Modified key value (rowsOf (now (rows .entry)) count)) ⌝ }
 {
-    let mut rows = rows;
-    let filled = &rows[..count];
-    let at = position(filled, key);
-    if present(filled, at, key) {
+    let whole = &rows[..];
+    if present(&whole[..count], at, key) {
         rows[at] = [key, value];
     }
-    rows
 }
 
 // The rows after the operation, which the copy has room for. Pairs past the new count are left free: a pop only lowers the count.
-pub fn next_rows(rows: [[u32; 2]; 64], count: usize, operation: Operation) -> [[u32; 2]; 64]
-    requires { ⌜ (count ≤ 64) × (length (nextOf operation (rowsOf rows count)) ≤ 64) ⌝ }
+pub fn next_rows(
+    rows: [[u32; 2]; 64],
+    count: usize,
+    at: usize,
+    operation: Operation,
+) -> [[u32; 2]; 64]
+    requires { ⌜ (count ≤ 64) × (length (nextOf operation (rowsOf rows count)) ≤ 64) × Placed operation (rowsOf rows count) at ⌝ }
     ensures { λ r. ⌜ rowsOf r (length (nextOf operation (rowsOf rows count))) ≡ nextOf operation (rowsOf rows count) ⌝ }
 {
+    let mut rows = rows;
     let number = operation.number;
     let key = operation.key;
     match number {
-        1 => opened(rows, count, count, [key, 0]),
-        4 => inserted(rows, count, key, 0),
-        5 | 8 => deleted(rows, count, key),
-        7 => inserted(rows, count, key, operation.value),
-        11 => modified(rows, count, key, operation.value),
-        _ => rows,
+        1 => rows[count] = [key, 0],
+        4 => insert(&mut rows, count, at, key, 0),
+        5 | 8 => delete(&mut rows, count, at, key),
+        7 => insert(&mut rows, count, at, key, operation.value),
+        11 => modify(&mut rows, count, at, key, operation.value),
+        _ => {}
+    }
+    rows
+}
+
+// Whether the copy, left as it is, begins with the rows after the operation: a caller then spares itself `next_rows`, which copies all 64 pairs.
+pub fn keeps_rows(rows: &[[u32; 2]; 64], count: usize, at: usize, operation: Operation) -> bool
+    requires { ⌜ (count ≤ 64) × Placed operation (rowsOf (now rows) count) at ⌝ }
+    ensures { λ r. ⌜ (r ≡ true → Holds (now (rows .entry)) (nextOf operation (rowsOf (now (rows .entry)) count))) ⌝ }
+{
+    let whole = &rows[..];
+    let filled = &whole[..count];
+    let number = operation.number;
+    let key = operation.key;
+    match number {
+        1 => false,
+        4 | 7 => present(filled, at, key),
+        5 | 8 | 11 => !present(filled, at, key),
+        _ => true,
     }
 }
 
 // How many rows there are after the operation.
-pub fn next_count(rows: &[[u32; 2]; 64], count: usize, operation: Operation) -> usize
-    requires { ⌜ count ≤ 64 ⌝ }
+pub fn next_count(rows: &[[u32; 2]; 64], count: usize, at: usize, operation: Operation) -> usize
+    requires { ⌜ (count ≤ 64) × Placed operation (rowsOf (now rows) count) at ⌝ }
     ensures { λ r. ⌜ r ≡ length (nextOf operation (rowsOf (now (rows .entry)) count)) ⌝ }
 {
     let whole = &rows[..];
@@ -140,12 +161,12 @@ pub fn next_count(rows: &[[u32; 2]; 64], count: usize, operation: Operation) -> 
     match number {
         1 => count + 1,
         2 => if count == 0 { 0 } else { count - 1 },
-        4 | 7 => if contains(filled, key) {
+        4 | 7 => if present(filled, at, key) {
             count
         } else {
             count + 1
         },
-        5 | 8 => if contains(filled, key) {
+        5 | 8 => if present(filled, at, key) {
             count - 1
         } else {
             count
@@ -177,10 +198,11 @@ fn top(rows: &[[u32; 2]]) -> Reply
     }
 }
 
-fn lookup(rows: &[[u32; 2]], key: u32) -> Reply
+// The value in the key's row, whose position is given.
+fn lookup(rows: &[[u32; 2]], at: usize, key: u32) -> Reply
+    requires { ⌜ at ≡ positionOf key (map rowOf (now rows)) ⌝ }
     ensures { λ r. ⌜ asReply r ≡ valued (found key (map rowOf (now (rows .entry)))) ⌝ }
 {
-    let at = position(rows, key);
     if present(rows, at, key) {
         return Reply {
             code: 1,
@@ -191,8 +213,8 @@ fn lookup(rows: &[[u32; 2]], key: u32) -> Reply
 }
 
 // What the operation replies.
-pub fn reply(rows: &[[u32; 2]; 64], count: usize, operation: Operation) -> Reply
-    requires { ⌜ count ≤ 64 ⌝ }
+pub fn reply(rows: &[[u32; 2]; 64], count: usize, at: usize, operation: Operation) -> Reply
+    requires { ⌜ (count ≤ 64) × Placed operation (rowsOf (now rows) count) at ⌝ }
     ensures { λ r. ⌜ asReply r ≡ replyOf operation (rowsOf (now (rows .entry)) count) ⌝ }
 {
     let whole = &rows[..];
@@ -202,9 +224,9 @@ pub fn reply(rows: &[[u32; 2]; 64], count: usize, operation: Operation) -> Reply
     match number {
         1 | 4 => Reply { code: 1, value: 0 },
         2 | 3 => top(filled),
-        5 | 6 | 8 | 11 => flag(contains(filled, key)),
-        7 => flag(!contains(filled, key)),
-        9 => lookup(filled, key),
+        5 | 6 | 8 | 11 => flag(present(filled, at, key)),
+        7 => flag(!present(filled, at, key)),
+        9 => lookup(filled, at, key),
         10 => Reply {
             code: 1,
             value: count as u32,

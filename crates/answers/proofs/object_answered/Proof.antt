@@ -1,9 +1,12 @@
 -- `answers::object_answered`: what is left to replay is answered exactly where the whole is.
-use Prim.Native.Nat.{_-_, _<_}
+use Prim.Native.Nat.{_-_, _≤_, _<_}
 use mathlib.Core.Path.{_≡_, _∙_}
+use mathlib.Core.Logic.{⊎-elim}
 use native.Mathlib.Omega.{arith}
 use borrow.Author.Needs.{needs}
+use borrow.Author.Tests.{not-false}
 use lib.ListN.{length}
+use Rattle.replay.specs.Replay.{nextOf, rowsOf, Holds, Placed}
 use Rattle.store.specs.Layout.{word, Packed, base}
 use Rattle.answers.specs.Laws.Entries.{needed-few}
 use Rattle.answers.specs.Laws.Replay.{Replaying, Reached, untouched, start, replayed, full, wrong, next-fits, turn}
@@ -73,52 +76,76 @@ add-used c = omega (arith, c .before .before .before .loop .inv .room, c .rows-n
 returns-2 : tie.Need-returns-2 Inv-loop μ-loop
 returns-2 c = full (reached (c .before)) (omega (arith, c .if2 .taken))
 
+-- The copy has its rows, has room for what comes next, and the place is the operation's.
+ready : (c : tie.After-place Inv-loop μ-loop) → let at-loop = c .before .before .before .before .before .before in
+    let rows = rowsOf (at-loop .loop .rows) (at-loop .loop .count) in
+    let operation = c .before .before .before .before .entry-operation .result in
+    (at-loop .loop .count ≤ 64) × (length (nextOf operation rows) ≤ 64) × Placed operation rows (c .place .result)
+ready c =
+    let room = c .before .before in
+    let (count, next) = next-fits (reached (room .before)) (omega (arith, room .if2 .left)) in
+    (count, next, c .place .ensures)
+
+place-requires : tie.Need-place-requires Inv-loop μ-loop
+place-requires c κs = next-fits (reached (c .before .before)) (omega (arith, c .before .if2 .left)) .0
+
 reply-requires : tie.Need-reply-requires Inv-loop μ-loop
-reply-requires c κs = next-fits (reached (c .before .before)) (omega (arith, c .before .if2 .left)) .0
+reply-requires c κs = let r = ready (c .before) in (r .0, r .2)
 
 entry-answer-requires : tie.Need-entry-answer-requires Inv-loop μ-loop
-entry-answer-requires c κs = readable (c .before .before .before .before .before)
+entry-answer-requires c κs = readable (c .before .before .before .before .before .before .before)
 
 returns-3 : tie.Need-returns-3 Inv-loop μ-loop
 returns-3 c =
     let answer = c .before .before in
     let reply = answer .before in
-    wrong (reached (reply .before .before .before)) (reply .reply .result) (answer .entry-answer .result) (c .before .same-reply .result) (reply .reply .ensures)
+    wrong (reached (reply .before .before .before .before .before)) (reply .reply .result) (answer .entry-answer .result) (c .before .same-reply .result) (reply .reply .ensures)
     (answer .entry-answer .ensures) (c .before .same-reply .ensures) (c .if3 .taken)
 
+abbrev placed : tie.After-rows3 Inv-loop μ-loop → tie.After-place Inv-loop μ-loop
+placed c = c .before .before .before .before .before .before
+
 next-count-requires : tie.Need-next-count-requires Inv-loop μ-loop
-next-count-requires c κs =
-    let room = c .before .before .before .before .before .before in
-    next-fits (reached (room .before)) (room .if2 .left) .0
+next-count-requires c κs = let r = ready (placed c) in (r .0, r .2)
+
+keeps-rows-requires : tie.Need-keeps-rows-requires Inv-loop μ-loop
+keeps-rows-requires c κs = let r = ready (placed (c .before .before)) in (r .0, r .2)
 
 next-rows-requires : tie.Need-next-rows-requires Inv-loop μ-loop
-next-rows-requires c κs =
-    let room = c .before .before .before .before .before .before .before in
-    next-fits (reached (room .before)) (room .if2 .left)
+next-rows-requires c κs = ready (placed (c .before .before .before .before))
+
+-- Whether it was changed or not, the copy has the rows after the operation.
+replayed-rows : (c : tie.Joined4 Inv-loop μ-loop) → let at-place = placed (c .before .before .before .before) in let at-loop = at-place .before .before .before .before .before .before in
+    Holds (c .if4 .rows) (nextOf (at-place .before .before .before .before .entry-operation .result) (rowsOf (at-loop .loop .rows) (at-loop .loop .count)))
+replayed-rows c =
+    ⊎-elim
+    (λ w. rw (w .2) (w .1 .ensures))
+    (λ w. rw (w .1) (c .before .keeps-rows .ensures (not-false _ (w .0 .left))))
+    (c .if4 .came)
 
 add-next-entry : tie.Need-add-next-entry Inv-loop μ-loop
-add-next-entry c = omega (arith, readable (c .before .before .before .before .before .before .before .before .before .before .before))
+add-next-entry c = omega (arith, readable (placed (c .before .before .before .before) .before .before .before .before .before))
 
 next-entry-requires-2 : tie.Need-next-entry-requires-2 Inv-loop μ-loop
 next-entry-requires-2 c κs =
-    let in-loop = c .before .before .before .before .before .before .before .before .before .before .before in
-    (packed (in-loop .before) .words, packed (in-loop .before) .entries, omega (arith, inside in-loop))
+    let turn = placed (c .before .before .before .before) .before .before .before .before .before in
+    (packed (turn .before) .words, packed (turn .before) .entries, omega (arith, inside turn))
 
 loop-less : tie.Need-loop-less Inv-loop μ-loop
 loop-less c =
-    let in-loop = c .before .before .before .before .before .before .before .before .before .before .before .before in
-    omega (arith, c .next-entry2 .ensures .after, in-loop .loop-test .taken)
+    let turn = placed (c .before .before .before .before .before) .before .before .before .before .before in
+    omega (arith, c .next-entry2 .ensures .after, turn .loop-test .taken)
 
 loop-again : tie.Need-loop-again Inv-loop μ-loop
 loop-again c =
-    let same = c .before .before .before .before .before in
-    let answer = same .before in
+    let counted = c .before .before .before .before in
+    let tested = counted .before .before in
+    let answer = tested .before .before in
     let reply = answer .before in
-    let room = reply .before .before in
-    turn (reached (room .before)) (reply .reply .result) (answer .entry-answer .result) (same .same-reply .result) (reply .reply .ensures)
-    (answer .entry-answer .ensures) (same .same-reply .ensures) (c .before .before .before .before .if3 .left) (room .if2 .left) (c .before .next-rows .result)
-    (c .before .before .next-count .result) (c .next-entry2 .result) (c .before .next-rows .ensures) (c .before .before .next-count .ensures)
-    (c .next-entry2 .ensures)
+    let room = placed (counted .before) .before .before in
+    turn (reached (room .before)) (reply .reply .result) (answer .entry-answer .result) (tested .before .same-reply .result) (reply .reply .ensures)
+    (answer .entry-answer .ensures) (tested .before .same-reply .ensures) (tested .if3 .left) (room .if2 .left) (c .before .if4 .rows)
+    (counted .next-count .result) (c .next-entry2 .result) (replayed-rows (c .before)) (counted .next-count .ensures) (c .next-entry2 .ensures)
 
 returns-4 : tie.Need-returns-4 Inv-loop μ-loop
 returns-4 c = replayed (c .before .loop .inv) (omega (arith, c .loop-test .left, c .before .before .before .before .before .before .entry-count .ensures))
@@ -139,11 +166,13 @@ object-answered-spec =
     (λ c κs. search needs)
     add-used
     returns-2
+    place-requires
     reply-requires
     entry-answer-requires
     (λ c κs. search needs)
     returns-3
     next-count-requires
+    keeps-rows-requires
     next-rows-requires
     add-next-entry
     next-entry-requires-2

@@ -27,10 +27,10 @@ room : (c : tie.After-copied) → length (nextOf (start c .args .operation) (row
 room c = next-fits (start c .args .operation) (c .copied .result) (count c) _ (copied c) (start c .pre .2)
 
 within : (c : tie.After-next-rows) → (c .before .next-count .result ≤ 64) × (length (c .next-rows .result) ≡ 64)
-within c = (omega (arith, c .before .next-count .ensures, room (c .before .before .before)), c .next-rows .ok .1 .0 .1)
+within c = (omega (arith, c .before .next-count .ensures, room (c .before .before .before .before .before)), c .next-rows .ok .1 .0 .1)
 
 next-rows-requires : tie.Need-next-rows-requires
-next-rows-requires c κs = (search needs, room (c .before .before))
+next-rows-requires c κs = (search needs, room (c .before .before .before .before), c .before .before .place .ensures)
 
 array-share-prefix-rows : tie.Need-array-share-prefix-rows
 array-share-prefix-rows c = omega (arith, within (c .before))
@@ -40,11 +40,11 @@ slice-aggregate-write-object c = sym (length-take-le _ _ (omega (arith, within (
 
 write-object-requires : tie.Need-write-object-requires
 write-object-requires c κs =
-    (start (c .before .before .before .before .before) .pre .0, omega (arith, slice-aggregate-write-object c, within (c .before .before)))
+    (start (c .before .before .before .before .before .before .before) .pre .0, omega (arith, slice-aggregate-write-object c, within (c .before .before)))
 
 returns : tie.Need-returns
 returns c =
-    let at-copied = c .before .before .before .before .before .before .before .before in
+    let at-copied = c .before .before .before .before .before .before .before .before .before .before in
     let part = start at-copied .args .part .now in
     let operation = start at-copied .args .operation in
     c .before .before .write-object .ensures
@@ -61,6 +61,7 @@ fold-part-spec =
     (λ c. search needs)
     (λ c. search needs)
     (λ c. search needs)
+    (λ c κs. search needs)
     (λ c κs. search needs)
     (λ c κs. search needs)
     next-rows-requires

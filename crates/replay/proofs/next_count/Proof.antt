@@ -1,6 +1,7 @@
 -- `replay::next_count`: each arm counts as its operation does; every other number changes nothing.
-use Prim.Native.Nat.{_≤_}
-use mathlib.Core.Path.{sym, _∙_}
+use Prim.Native.Nat.{ℕ, _≤_}
+use mathlib.Core.Path.{_≡_, sym, _∙_}
+use mathlib.Core.Logic.{_⊎_, ⊎-elim}
 use native.Mathlib.Omega.{arith}
 use borrow.Author.Needs.{needs}
 use lib.ListN.{length}
@@ -16,8 +17,18 @@ fits c = omega (arith, c .whole .given .0)
 slice-aggregate-filled : tie.Need-slice-aggregate-filled
 slice-aggregate-filled c = sym (length-take-le _ _ (fits (c .before)))
 
+-- Inserts and deletes have a key.
+keyed : {n a b : ℕ} → 4 ≤ a → 4 ≤ b → (n ≡ a) ⊎ (n ≡ b) → 4 ≤ n
+keyed k l = ⊎-elim (λ e. omega arith) (λ e. omega arith)
+
+present-requires : tie.Need-present-requires
+present-requires c κs = c .before .before .before .pre .1 (keyed (omega arith) (omega arith) (c .match .keys3))
+
+present-requires-2 : tie.Need-present-requires-2
+present-requires-2 c κs = c .before .before .before .pre .1 (keyed (omega arith) (omega arith) (c .match .keys4))
+
 sub-result-2 : tie.Need-sub-result-2
-sub-result-2 c = nonempty _ _ (fits (c .before .before .before .before)) _ (sym (c .before .contains2 .ensures) ∙ c .if3 .taken)
+sub-result-2 c = nonempty _ _ (fits (c .before .before .before .before)) _ (sym (c .before .present2 .ensures) ∙ c .if3 .taken)
 
 returns : tie.Need-returns
 returns c = count-push (c .before .before .before .args .operation) _ _ (fits (c .before .before)) (c .match .keys1)
@@ -29,16 +40,16 @@ returns-3 : tie.Need-returns-3
 returns-3 c = count-pop (c .before .before .before .before .args .operation) _ _ (fits (c .before .before .before)) (c .before .match .keys2)
 
 returns-4 : tie.Need-returns-4
-returns-4 c = count-insert-same (c .before .before .before .before .before .args .operation) _ _ (fits (c .before .before .before .before)) (c .before .before .match .keys3) (sym (c .before .contains .ensures) ∙ c .if2 .taken)
+returns-4 c = count-insert-same (c .before .before .before .before .before .args .operation) _ _ (fits (c .before .before .before .before)) (c .before .before .match .keys3) (sym (c .before .present .ensures) ∙ c .if2 .taken)
 
 returns-5 : tie.Need-returns-5
-returns-5 c = count-insert-more (c .before .before .before .before .before .args .operation) _ _ (fits (c .before .before .before .before)) (c .before .before .match .keys3) (sym (c .before .contains .ensures) ∙ c .if2 .left)
+returns-5 c = count-insert-more (c .before .before .before .before .before .args .operation) _ _ (fits (c .before .before .before .before)) (c .before .before .match .keys3) (sym (c .before .present .ensures) ∙ c .if2 .left)
 
 returns-6 : tie.Need-returns-6
-returns-6 c = count-delete-less (c .before .before .before .before .before .args .operation) _ _ (fits (c .before .before .before .before)) (c .before .before .match .keys4) (sym (c .before .contains2 .ensures) ∙ c .if3 .taken)
+returns-6 c = count-delete-less (c .before .before .before .before .before .args .operation) _ _ (fits (c .before .before .before .before)) (c .before .before .match .keys4) (sym (c .before .present2 .ensures) ∙ c .if3 .taken)
 
 returns-7 : tie.Need-returns-7
-returns-7 c = count-delete-same (c .before .before .before .before .before .args .operation) _ _ (fits (c .before .before .before .before)) (c .before .before .match .keys4) (sym (c .before .contains2 .ensures) ∙ c .if3 .left)
+returns-7 c = count-delete-same (c .before .before .before .before .before .args .operation) _ _ (fits (c .before .before .before .before)) (c .before .before .match .keys4) (sym (c .before .present2 .ensures) ∙ c .if3 .left)
 
 returns-8 : tie.Need-returns-8
 returns-8 c =
@@ -52,9 +63,9 @@ next-count-spec =
     slice-aggregate-filled
     (λ c. search needs)
     (λ c. search needs)
-    (λ c κs. search needs)
+    present-requires
     (λ c. search needs)
-    (λ c κs. search needs)
+    present-requires-2
     sub-result-2
     returns
     returns-2

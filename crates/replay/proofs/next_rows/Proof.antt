@@ -1,5 +1,6 @@
 -- `replay::next_rows`: each arm is its operation; every other number, a pop among them, leaves the copy as it was.
-use Prim.Native.Nat.{_≤_}
+use Prim.Native.Nat.{_≤_, _<_}
+use mathlib.Core.Logic.{⊎-elim}
 use mathlib.Core.List.{List}
 use native.Mathlib.Omega.{arith}
 use borrow.Author.Needs.{needs}
@@ -20,29 +21,41 @@ filled s = rowsOf (s .args .rows) (s .args .count)
 fits : (c : tie.Start) → c .args .count ≤ length (c .args .rows)
 fits c = omega (arith, c .good .0 .1 .0 .1)
 
-opened-requires : tie.Need-opened-requires
-opened-requires c κs = omega (arith, c .before .pre, count-push (c .before .args .operation) (c .before .args .rows) (c .before .args .count) (fits (c .before)) (c .match .keys1))
+below : (c : tie.At-match-keys1) → c .before .args .count < 64
+below c = let start = c .before in omega (arith, start .pre .1, count-push (asked start) (start .args .rows) (start .args .count) (fits start) (c .match .keys1))
 
-inserted-requires : tie.Need-inserted-requires
-inserted-requires c κs = (c .before .pre .0, rw (next-set-insert (asked (c .before)) (filled (c .before)) (c .match .keys2)) at (c .before .pre .1))
+insert-requires : tie.Need-insert-requires
+insert-requires c κs =
+    let start = c .before .before in
+    (start .pre .0, (rw (next-set-insert (asked start) (filled start) (c .before .match .keys2)) at (start .pre .1)), start .pre .2 (omega (arith, c .before .match .keys2)))
 
-inserted-requires-2 : tie.Need-inserted-requires-2
-inserted-requires-2 c κs = (c .before .pre .0, rw (next-table-insert (asked (c .before)) (filled (c .before)) (c .match .keys4)) at (c .before .pre .1))
+delete-requires : tie.Need-delete-requires
+delete-requires c κs =
+    let pre = c .before .before .pre in
+    (pre .0, pre .2 (⊎-elim (λ e. omega arith) (λ e. omega arith) (c .before .match .keys3)))
+
+insert-requires-2 : tie.Need-insert-requires-2
+insert-requires-2 c κs =
+    let start = c .before .before in
+    (start .pre .0, (rw (next-table-insert (asked start) (filled start) (c .before .match .keys4)) at (start .pre .1)), start .pre .2 (omega (arith, c .before .match .keys4)))
+
+modify-requires : tie.Need-modify-requires
+modify-requires c κs = let pre = c .before .before .pre in (pre .0, pre .2 (omega (arith, c .before .match .keys5)))
 
 returns : tie.Need-returns
-returns c = push-holds (c .before .before .args .operation) _ _ (fits (c .before .before)) _ (c .before .match .keys1) (c .opened .ensures)
+returns c = push-holds (asked (c .before)) _ _ (fits (c .before)) (c .match .keys1) (omega (arith, below c, c .before .good .0 .1 .0 .1))
 
 returns-2 : tie.Need-returns-2
-returns-2 c = rw (next-set-insert (asked (c .before .before)) (filled (c .before .before)) (c .before .match .keys2)) (c .inserted .ensures)
+returns-2 c = let start = c .before .before .before in rw (next-set-insert (asked start) (filled start) (c .before .before .match .keys2)) (c .insert .ensures)
 
 returns-3 : tie.Need-returns-3
-returns-3 c = rw (next-delete (asked (c .before .before)) (filled (c .before .before)) (c .before .match .keys3)) (c .deleted .ensures)
+returns-3 c = let start = c .before .before .before in rw (next-delete (asked start) (filled start) (c .before .before .match .keys3)) (c .delete .ensures)
 
 returns-4 : tie.Need-returns-4
-returns-4 c = rw (next-table-insert (asked (c .before .before)) (filled (c .before .before)) (c .before .match .keys4)) (c .inserted2 .ensures)
+returns-4 c = let start = c .before .before .before in rw (next-table-insert (asked start) (filled start) (c .before .before .match .keys4)) (c .insert2 .ensures)
 
 returns-5 : tie.Need-returns-5
-returns-5 c = rw (next-modify (asked (c .before .before)) (filled (c .before .before)) (c .before .match .keys5)) (c .modified .ensures)
+returns-5 c = let start = c .before .before .before in rw (next-modify (asked start) (filled start) (c .before .before .match .keys5)) (c .modify .ensures)
 
 returns-6 : tie.Need-returns-6
 returns-6 c =
@@ -53,11 +66,12 @@ pub next-rows-spec : {M : Type 1} → statement M
 next-rows-spec =
     tie.close
     (tie.spec
-    opened-requires
-    inserted-requires
-    (λ c κs. search needs)
-    inserted-requires-2
-    (λ c κs. search needs)
+    (λ c. search needs)
+    below
+    insert-requires
+    delete-requires
+    insert-requires-2
+    modify-requires
     returns
     returns-2
     returns-3

@@ -28,13 +28,24 @@ fits c = omega (arith, c .whole .given .0)
 slice-aggregate-filled : tie.Need-slice-aggregate-filled
 slice-aggregate-filled c = sym (length-take-le _ _ (fits (c .before)))
 
+present-requires : tie.Need-present-requires
+present-requires c κs = c .before .before .before .pre .1 (omega (arith, c .match .keys3))
+
+lookup-requires : tie.Need-lookup-requires
+lookup-requires c κs = c .before .before .before .pre .1 (omega (arith, c .match .keys4))
+
+present-requires-2 : tie.Need-present-requires-2
+present-requires-2 c κs =
+    c .before .before .before .pre .1
+    (⊎-elim (λ w. ⊎-elim (λ e. omega arith) (λ e. omega arith) (w .keys2)) (λ w. w .2 .left) (c .match .came))
+
 returns : tie.Need-returns
 returns c = reply-done (asked (c .before .before .before)) (filled (c .before .before .before)) (c .match .keys1)
 
 returns-2 : tie.Need-returns-2
 returns-2 c =
     c .flag .ensures
-    ∙ ap (λ b. flag (not b)) (c .before .contains .ensures)
+    ∙ ap (λ b. flag (not b)) (c .before .present .ensures)
     ∙ reply-insert (asked (c .before .before .before .before .before)) (filled (c .before .before .before .before .before)) (c .before .before .match .keys3)
 
 returns-3 : tie.Need-returns-3
@@ -61,7 +72,7 @@ returns-7 c =
 returns-8 : tie.Need-returns-8
 returns-8 c =
     c .flag2 .ensures
-    ∙ ap flag (c .before .contains2 .ensures)
+    ∙ ap flag (c .before .present2 .ensures)
     ∙ ⊎-elim
     (λ w. reply-present (asked (c .before .before .before .before .before)) (filled (c .before .before .before .before .before)) (w .keys2))
     (λ w. reply-present-set (asked (c .before .before .before .before .before)) (filled (c .before .before .before .before .before)) (w .0 .rest .0 .0 .0 .0 .1) (w .2 .left) (w .3 .taken))
@@ -72,12 +83,12 @@ reply-spec =
     tie.close
     (tie.spec
     slice-aggregate-filled
+    present-requires
     (λ c κs. search needs)
-    (λ c κs. search needs)
-    (λ c κs. search needs)
+    lookup-requires
     (λ c. search needs)
     (λ c κs. search needs)
-    (λ c κs. search needs)
+    present-requires-2
     (λ c κs. search needs)
     returns
     returns-2

@@ -9,7 +9,7 @@ use lib.ListN.{length, getD, take, set, length-set, length-map, List·getD-map}
 use lib.Seq.{length-take-le, take-take, take-set-lt}
 use Rattle.operations.specs.Operations.{found, present, inserted, deleted, modified, topItem, valued, replied}
 use Rattle.replay.specs.Replay.{rowOf, rowsOf, Holds, positionOf, putAt, removedAt}
-use Rattle.replay.specs.Laws.Lists.{put-last, map-take, map-put, map-removed, map-set, length-put, length-removed, getD-default}
+use Rattle.replay.specs.Laws.Lists.{put-last, map-take, map-put, map-removed, map-set, length-put, length-removed, getD-default, opened-end}
 use Rattle.replay.specs.Laws.Positions.{rowAt, there, absent, tested, untested, inserted-more}
 
 -- ---- Reading
@@ -77,13 +77,12 @@ module _ (rows : List (List ℕ)) (count : ℕ) (fits : count ≤ length rows) w
       rw (← map-put rowOf at pair (take count rows))
       (held copy (putAt at pair (take count rows)) (count + 1) e (length-put at pair (take count rows) ∙ ap (λ n. n + 1) taken))
 
-  pub pushed : (copy : List (List ℕ)) (pair : List ℕ) → take (count + 1) copy ≡ putAt count pair (take count rows)
-      → Holds copy (rowsOf rows count ++ (rowOf pair ∷ []))
-  pushed copy pair e =
+  pub pushed : (pair : List ℕ) → count < length rows → Holds (set rows count pair) (rowsOf rows count ++ (rowOf pair ∷ []))
+  pushed pair h =
       let last : putAt count (rowOf pair) (rowsOf rows count) ≡ rowsOf rows count ++ (rowOf pair ∷ []) =
       ap (λ n. putAt n (rowOf pair) (rowsOf rows count)) (sym count-rows) ∙ put-last (rowsOf rows count) (rowOf pair)
       in
-      rw (← last) (put copy count pair e)
+      rw (← last) (put (set rows count pair) count pair (opened-end rows count pair [] h))
 
   removed : (copy : List (List ℕ)) (at : ℕ) → at < count → take (count - 1) copy ≡ removedAt at (take count rows)
       → Holds copy (removedAt at (rowsOf rows count))
