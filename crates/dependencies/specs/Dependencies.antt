@@ -1,14 +1,14 @@
 -- Pairs of log entries that do not commute, or of which the later is not recoverable against the earlier, by index; and sets of the owners of entries.
 use Prim.Native.Nat.{ℕ, _+_, _-_, _*_, _%_, _≤_, _<_}
 use mathlib.Core.Path.{_≡_}
-use mathlib.Core.Bool.{Bool, true, false, cond}
+use mathlib.Core.Bool.{Bool, true, false}
 use mathlib.Core.Logic.{_↔_, _⊎_}
 use mathlib.Core.List.{List, []}
-use lib.Dec.{leb}
 use lib.ListN.{length, getD}
-use Rattle.operations.specs.Operations.{Kind, Stack, Set, Table, Operation, kindOf}
-use Rattle.operations.specs.PairRules.{Rule, always, never, apart, Rules, ruleAt, firstNumber, lastNumber, recoverable, commutes}
+use Rattle.operations.specs.Operations.{Kind, Operation, kindOf}
+use Rattle.operations.specs.PairRules.{Rule, always, never, apart, Rules, ruleAt, recoverable, commutes}
 use Rattle.bitset.specs.Bitset.{has, Holds, Represents}
+use Rattle.pairs.specs.Pairs.{Numbered, kindNumbered, columnOf}
 use Rattle.store.specs.Layout.{word, entryStart, operationAt, AsStored}
 
 -- Some number below n is such.
@@ -61,28 +61,7 @@ BarsBelow related w n a b = Some (λ i. (transactionAt w i ≡ a) × Bars relate
 abbrev pub Unrecoverable : List ℕ → ℕ → ℕ → Type 0
 Unrecoverable w n b = (a : ℕ) × BarsBelow recoverable w n a b
 
--- ---- Operations by number
-
-abbrev pub Numbered : ℕ → Type 0
-Numbered number = (1 ≤ number) × (number ≤ 11)
-
--- The kind of the operation that a number names.
-unfoldable pub kindNumbered : ℕ → Kind
-kindNumbered number = cond (leb number 3) Stack (cond (leb number 6) Set Table)
-
-abbrev pub firstOf : ℕ → ℕ
-firstOf number = firstNumber (kindNumbered number)
-
-abbrev pub lastOf : ℕ → ℕ
-lastOf number = lastNumber (kindNumbered number)
-
--- Its place among the operations of its kind.
-abbrev pub columnOf : ℕ → ℕ
-columnOf number = number - firstOf number
-
--- How many operations its kind has.
-abbrev pub widthOf : ℕ → ℕ
-widthOf number = lastOf number + 1 - firstOf number
+-- ---- What the rules pick
 
 -- What the rule for a requested operation and one at a column picks: of two sets, the owners of such entries on the object, and of those with the same key.
 abbrev pub picked : Rule → ℕ → ℕ → ℕ

@@ -6,12 +6,11 @@ ghost use mathlib.Core.Logic.{_↔_};
 ghost use Prim.Native.Nat.{_+_, _-_, _<_};
 ghost use Rattle.bitset.specs.Bitset.{Holds, Represents};
 ghost use Rattle.operations.specs.PairRules.{Rule, recoverableRules, commutingRules};
-ghost use Rattle.pairs.specs.Pairs.{codeOf, codeAt};
-ghost use Rattle.pairs.specs.Laws.{Within};
+ghost use Rattle.pairs.specs.Pairs.{codeOf, Numbered, firstOf, columnOf, widthOf};
 ghost use Rattle.store.specs.Layout.{word, base, decode, Packed};
 ghost use Rattle.store.specs.Soundness.{EntriesLive, EntriesFit, EntriesRecoverable};
 ghost use Rattle.store.specs.Dependency.{DependsOn};
-ghost use Rattle.dependencies.specs.Dependencies.{Readable, Barred, Numbered, kindNumbered, firstOf, lastOf, columnOf, widthOf, picked as Pick, Picked, EntryRead, WithOwner, Alike, Gathered, slotAt, Latest, Chained};
+ghost use Rattle.dependencies.specs.Dependencies.{Readable, Barred, picked as Pick, Picked, EntryRead, WithOwner, Alike, Gathered, slotAt, Latest, Chained};
 
 // Whether each entry is recoverable against every earlier one of another transaction, and for each transaction those that it depends on.
 pub struct LogConflicts {
@@ -51,78 +50,45 @@ fn first(number: u32) -> u32
     7
 }
 
-// The last.
-fn last(number: u32) -> u32
-    requires { ⌜ Numbered number ⌝ }
-    ensures { λ r. ⌜ r ≡ lastOf number ⌝ }
+// How many operations the kind has.
+fn width(number: u32) -> usize
+    ensures { λ r. ⌜ r ≡ widthOf number ⌝ }
 {
-    if number <= 3 {
+    if number <= 6 {
         return 3;
     }
-    if number <= 6 {
-        return 6;
-    }
-    11
-}
-
-// The codes of the rules for two operations of one kind.
-
-fn recoverable_rule(requested: u32, logged: u32) -> u8
-    requires { ⌜ Within (kindNumbered requested) requested logged ⌝ }
-    ensures { λ r. ⌜ r ≡ codeAt (recoverableRules (kindNumbered requested)) (columnOf requested) (logged - firstOf requested) ⌝ }
-{
-    if requested <= 3 {
-        return pairs::stack_recoverable(requested, logged);
-    }
-    if requested <= 6 {
-        return pairs::set_recoverable(requested, logged);
-    }
-    pairs::table_recoverable(requested, logged)
-}
-
-fn commuting_rule(requested: u32, logged: u32) -> u8
-    requires { ⌜ Within (kindNumbered requested) requested logged ⌝ }
-    ensures { λ r. ⌜ r ≡ codeAt (commutingRules (kindNumbered requested)) (columnOf requested) (logged - firstOf requested) ⌝ }
-{
-    if requested <= 3 {
-        return pairs::stack_commuting(requested, logged);
-    }
-    if requested <= 6 {
-        return pairs::set_commuting(requested, logged);
-    }
-    pairs::table_commuting(requested, logged)
+    5
 }
 
 // What a rule picks: the owners of entries on the object, or of those with the same key, or nobody.
 fn pick(rule: u8, whole: u64, same: u64) -> u64
     ensures { λ r. ⌜ ((which : Rule) → rule ≡ codeOf which → r ≡ Pick which whole same) ⌝ }
 {
-    match rule {
-        pairs::NEVER => whole,
-        pairs::ALWAYS => 0,
-        _ => same,
+    let mut chosen: u64 = 0;
+    if rule == pairs::NEVER {
+        chosen = whole;
     }
+    if rule == pairs::APART {
+        chosen = same;
+    }
+    chosen
 }
 
 // The owners that bar an operation, out of those on its object and those with its key too.
-fn barring(number: u32, whole: Owners, same: Owners) -> Blockers
+fn barring(number: u32, whole: &Owners, same: &Owners) -> Blockers
     requires { ⌜ Numbered number ⌝ }
-    ensures { λ r. ⌜ Holds (r .unrecoverable) (Picked recoverableRules number whole same (widthOf number)) × Holds (r .conflicting) (Picked commutingRules number whole same (widthOf number)) ⌝ }
+    ensures { λ r. ⌜ Holds (r .unrecoverable) (Picked recoverableRules number (now (whole .entry)) (now (same .entry)) (widthOf number)) × Holds (r .conflicting) (Picked commutingRules number (now (whole .entry)) (now (same .entry)) (widthOf number)) ⌝ }
 {
-    let start = first(number);
-    let end = last(number) + 1;
+    let recoverable = pairs::recoverable_row(number);
+    let commuting = pairs::commuting_row(number);
+    let columns = width(number);
     let mut unrecoverable: u64 = 0;
     let mut conflicting: u64 = 0;
-    for logged in start..end {
-        let at = layout::wide(logged - start);
-        unrecoverable = bitset::join(
-            unrecoverable,
-            pick(recoverable_rule(number, logged), whole[at], same[at]),
-        );
-        conflicting = bitset::join(
-            conflicting,
-            pick(commuting_rule(number, logged), whole[at], same[at]),
-        );
+    for at in 0..columns {
+        let all = whole[at];
+        let alike = same[at];
+        unrecoverable = bitset::join(unrecoverable, pick(recoverable[at], all, alike));
+        conflicting = bitset::join(conflicting, pick(commuting[at], all, alike));
     }
     Blockers {
         unrecoverable: unrecoverable,
@@ -218,7 +184,7 @@ fn blocking(
 {
     let entry = read(book, i);
     let object = entry.object;
-    let found = barring(entry.number, whole[object], same[at]);
+    let found = barring(entry.number, &whole[object], &same[at]);
     Blockers {
         unrecoverable: bitset::without(found.unrecoverable, entry.transaction),
         conflicting: bitset::without(found.conflicting, entry.transaction),

@@ -2,14 +2,15 @@
 use Prim.Native.Nat.{ℕ, zero, suc, _+_, _-_, _<_, _≤_}
 use mathlib.Core.Path.{_≡_, _∙_, ap}
 use mathlib.Core.Bool.{Bool}
-use mathlib.Core.List.{[], map}
+use mathlib.Core.List.{List, [], map}
 use native.Mathlib.Nat.{not-suc-le-zero, le-of-suc-le-suc}
 use native.Mathlib.Omega.{arith}
+use borrow.Author.Tests.{le-leb, lt-leb}
 use lib.ListN.{getD, List·getD-map}
 use Rattle.operations.specs.Operations as model
 use Rattle.operations.specs.PairRules.{Rule, never, Rules, ruleAt, related, firstNumber, lastNumber, recoverableRules, commutingRules}
 use Rattle.operations.specs.declared.Operation.{Operation}
-use Rattle.pairs.specs.Pairs.{codeOf, codeAt, allowsKeys, OneKind, both, pairOf}
+use Rattle.pairs.specs.Pairs.{codeOf, codeAt, allowsKeys, OneKind, both, pairOf, kindNumbered, RowOf, Filled}
 
 -- Every look-up: the table of codes has the code of each rule. Outside it both say `never`, whose code is 0.
 pub code : (rules : Rules) (requested logged : ℕ) → getD (getD (map (map codeOf) rules) requested []) logged 0 ≡ codeAt rules requested logged
@@ -74,3 +75,31 @@ decided rules keyed kind requested logged w found allowed =
     let atJ : first + j ≡ logged .number = omega arith in
     let row = each last _ (keyed kind (requested .key) (requested .value) (logged .key) (logged .value)) i (omega arith) in
     allowed (ruleAt (rules kind) i j) found ∙ (rw (atI, atJ) at (each last _ row j (omega arith)))
+
+-- ---- Operations by number
+
+pub numbered-stack : (number : ℕ) → number ≤ 3 → kindNumbered number ≡ model.Stack
+unfolding kindNumbered
+numbered-stack number l = rw (le-leb number 3 l)
+
+pub numbered-set : (number : ℕ) → 3 < number → number ≤ 6 → kindNumbered number ≡ model.Set
+unfolding kindNumbered
+numbered-set number l m = rw (lt-leb number 3 l, le-leb number 6 m)
+
+pub numbered-table : (number : ℕ) → 6 < number → kindNumbered number ≡ model.Table
+unfolding kindNumbered
+numbered-table number l =
+    let m : 3 < number = omega arith in
+    rw (lt-leb number 3 m, lt-leb number 6 l)
+
+-- `recoverable_row` and `commuting_row`: what each of the three ways out gives.
+module _ (rules : model.Kind → Rules) (requested : ℕ) where
+  pub stack-row : (row : List ℕ) → requested ≤ 3 → Filled (getD (map (map codeOf) (rules model.Stack)) (requested - 1) []) row → RowOf rules requested row
+  stack-row row l filled = rw (numbered-stack requested l) (λ m k. filled m k ∙ code (rules model.Stack) (requested - 1) m)
+
+  pub set-row : (row : List ℕ) → 3 < requested → requested ≤ 6 → Filled (getD (map (map codeOf) (rules model.Set)) (requested - 4) []) row
+      → RowOf rules requested row
+  set-row row l m filled = rw (numbered-set requested l m) (λ n k. filled n k ∙ code (rules model.Set) (requested - 4) n)
+
+  pub table-row : 6 < requested → RowOf rules requested (getD (map (map codeOf) (rules model.Table)) (requested - 7) [])
+  table-row l = rw (numbered-table requested l) (λ m k. code (rules model.Table) (requested - 7) m)

@@ -1,7 +1,11 @@
 -- What the tables of `pairs` say.
-use Prim.Native.Nat.{ℕ, _≤_}
-use mathlib.Core.Bool.{Bool, false}
+use Prim.Native.Nat.{ℕ, _+_, _-_, _≤_, _<_}
+use mathlib.Core.Path.{_≡_}
+use mathlib.Core.Bool.{Bool, false, cond}
+use mathlib.Core.List.{List}
 use mathlib.Core.Option.{Option, none, some}
+use lib.Dec.{leb}
+use lib.ListN.{getD}
 use Rattle.operations.specs.Operations as model
 use Rattle.operations.specs.PairRules.{Rule, always, never, apart, Rules, allows, ruleAt, firstNumber, lastNumber}
 use Rattle.operations.specs.declared.Operation.{Operation}
@@ -34,3 +38,34 @@ both holds (some requested) (some logged) = holds requested logged
 
 abbrev pub pairOf : (model.Operation → model.Operation → Bool) → Operation → Operation → Bool
 pairOf holds requested logged = both holds (operationOf requested) (operationOf logged)
+
+-- ---- Operations by number
+
+abbrev pub Numbered : ℕ → Type 0
+Numbered number = (1 ≤ number) × (number ≤ 11)
+
+-- The kind of the operation that a number names.
+unfoldable pub kindNumbered : ℕ → model.Kind
+kindNumbered number = cond (leb number 3) model.Stack (cond (leb number 6) model.Set model.Table)
+
+abbrev pub firstOf : ℕ → ℕ
+firstOf number = firstNumber (kindNumbered number)
+
+abbrev pub lastOf : ℕ → ℕ
+lastOf number = lastNumber (kindNumbered number)
+
+-- Its place among the operations of its kind.
+abbrev pub columnOf : ℕ → ℕ
+columnOf number = number - firstOf number
+
+-- How many operations its kind has.
+abbrev pub widthOf : ℕ → ℕ
+widthOf number = lastOf number + 1 - firstOf number
+
+-- The codes for a requested operation, one for each logged one of its kind.
+abbrev pub RowOf : (model.Kind → Rules) → ℕ → List ℕ → Type 0
+RowOf rules requested row = (m : ℕ) → m < widthOf requested → getD row m 0 ≡ codeAt (rules (kindNumbered requested)) (columnOf requested) m
+
+-- A row of three codes, filled up.
+abbrev pub Filled : List ℕ → List ℕ → Type 0
+Filled row r = (m : ℕ) → m < 3 → getD r m 0 ≡ getD row m 0

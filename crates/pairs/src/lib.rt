@@ -2,8 +2,8 @@
 use operations::Operation;
 ghost use mathlib.Core.Path.{_≡_};
 ghost use Prim.Native.Nat.{_-_, _≤_};
-ghost use Rattle.operations.specs.PairRules.{Rule, recoverable as Recoverable, commutes as Commutes, stackRecoverable, setRecoverable, tableRecoverable, stackCommuting, setCommuting, tableCommuting};
-ghost use Rattle.pairs.specs.Pairs.{OneKind, codeOf, codeAt, allowsKeys, pairOf};
+ghost use Rattle.operations.specs.PairRules.{Rule, recoverable as Recoverable, commutes as Commutes, recoverableRules, commutingRules, stackRecoverable, setRecoverable, tableRecoverable, stackCommuting, setCommuting, tableCommuting};
+ghost use Rattle.pairs.specs.Pairs.{OneKind, codeOf, codeAt, allowsKeys, pairOf, Numbered, RowOf, Filled};
 
 pub const NEVER: u8 = 0;
 
@@ -96,6 +96,41 @@ pub fn table_commuting(requested: u32, logged: u32) -> u8
     ensures { λ r. ⌜ r ≡ codeAt tableCommuting (requested - 7) (logged - 7) ⌝ }
 {
     TABLE_COMMUTING[(requested - 7) as usize][(logged - 7) as usize]
+}
+
+// A row of three codes, filled up to five.
+fn filled(row: [u8; 3]) -> [u8; 5]
+    ensures { λ r. ⌜ Filled row r ⌝ }
+{
+    [row[0], row[1], row[2], NEVER, NEVER]
+}
+
+// The row of a requested operation, by its number: a code for each logged one of its kind.
+
+pub fn recoverable_row(requested: u32) -> [u8; 5]
+    requires { ⌜ Numbered requested ⌝ }
+    ensures { λ r. ⌜ RowOf recoverableRules requested r ⌝ }
+{
+    if requested <= 3 {
+        return filled(STACK_RECOVERABLE[(requested - 1) as usize]);
+    }
+    if requested <= 6 {
+        return filled(SET_RECOVERABLE[(requested - 4) as usize]);
+    }
+    TABLE_RECOVERABLE[(requested - 7) as usize]
+}
+
+pub fn commuting_row(requested: u32) -> [u8; 5]
+    requires { ⌜ Numbered requested ⌝ }
+    ensures { λ r. ⌜ RowOf commutingRules requested r ⌝ }
+{
+    if requested <= 3 {
+        return filled(STACK_COMMUTING[(requested - 1) as usize]);
+    }
+    if requested <= 6 {
+        return filled(SET_COMMUTING[(requested - 4) as usize]);
+    }
+    TABLE_COMMUTING[(requested - 7) as usize]
 }
 
 // A table's code, tested on the two operations.

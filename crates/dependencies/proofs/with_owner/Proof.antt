@@ -4,7 +4,8 @@ use mathlib.Core.Path.{_≡_, subst}
 use native.Mathlib.Omega.{arith}
 use borrow.Author.Needs.{needs}
 use lib.ListN.{set}
-use Rattle.dependencies.specs.Dependencies.{columnOf, WithOwner}
+use Rattle.pairs.specs.Pairs.{columnOf}
+use Rattle.dependencies.specs.Dependencies.{WithOwner}
 use Rattle.dependencies.specs.Laws.Sets.{with-owner}
 use Rattle.dependencies.specs.Laws.Numbers.{ranged}
 use Rattle.dependencies.proofs.with_owner.Statement.{statement}

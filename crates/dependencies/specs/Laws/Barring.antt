@@ -12,8 +12,9 @@ use Rattle.operations.specs.Operations.{Kind, kindOf, keyOf}
 use Rattle.operations.specs.PairRules.{Rule, never, apart, Rules, allows, ruleAt, ruleFor, related, firstNumber, lastNumber, recoverableRules, commutingRules}
 use Rattle.operations.specs.Laws.Cases
 use Rattle.bitset.specs.Bitset.{has, Members, Holds, Represents}
+use Rattle.pairs.specs.Pairs.{Numbered, kindNumbered, columnOf, widthOf}
 use Rattle.store.specs.Layout.{word, operationAt}
-use Rattle.dependencies.specs.Dependencies.{transactionAt, objectAt, numberAt, keyAt, Readable, Bars, Barred, Numbered, kindNumbered, columnOf, widthOf, Picked, Owned, EntryRead, On, Alike, Gathered, Latest}
+use Rattle.dependencies.specs.Dependencies.{transactionAt, objectAt, numberAt, keyAt, Readable, Bars, Barred, Picked, Owned, EntryRead, On, Alike, Gathered, Latest}
 use Rattle.dependencies.specs.Laws.Sets.{holds-same, holds-without}
 use Rattle.dependencies.specs.Laws.Numbers.{ranged, placed, picked-of, picked-from}
 use Rattle.dependencies.specs.Laws.Rows.{row-alike}

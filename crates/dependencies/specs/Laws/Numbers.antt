@@ -13,32 +13,18 @@ use Rattle.operations.specs.PairRules.{Rule, always, never, apart, Rules, allow
 use Rattle.operations.specs.Laws.Cases.{split}
 use Rattle.bitset.specs.Bitset.{has, Members, Holds}
 use Rattle.bitset.specs.Laws.{empty}
-use Rattle.pairs.specs.Pairs.{codeOf, codeAt}
-use Rattle.dependencies.specs.Dependencies.{Numbered, kindNumbered, firstOf, lastOf, columnOf, picked, pickedAt, Picked}
+use Rattle.pairs.specs.Pairs.{codeOf, codeAt, Numbered, kindNumbered, firstOf, lastOf, columnOf, widthOf}
+use Rattle.pairs.specs.Laws.{numbered-stack, numbered-set, numbered-table}
+use Rattle.dependencies.specs.Dependencies.{picked, pickedAt, Picked}
 use Rattle.dependencies.specs.Laws.Sets.{some-none, some-more, holds-none, holds-same, holds-join}
 
 -- ---- Kinds
-
-pub numbered-stack : (number : ℕ) → number ≤ 3 → kindNumbered number ≡ Stack
-unfolding kindNumbered
-numbered-stack number l = rw (le-leb number 3 l)
-
-pub numbered-set : (number : ℕ) → 3 < number → number ≤ 6 → kindNumbered number ≡ Set
-unfolding kindNumbered
-numbered-set number l m = rw (lt-leb number 3 l, le-leb number 6 m)
-
-pub numbered-table : (number : ℕ) → 6 < number → kindNumbered number ≡ Table
-unfolding kindNumbered
-numbered-table number l =
-    let m : 3 < number = omega arith in
-    rw (lt-leb number 3 m, lt-leb number 6 l)
 
 -- The range of a number's kind.
 pub record Ranged (number : ℕ) : Type 0 where
   pub least : firstOf number ≤ number
   pub most : number ≤ lastOf number
   pub width : lastOf number ≤ firstOf number + 4
-  pub end : lastOf number ≤ 11
 
 pub ranged : (number : ℕ) → Numbered number → Ranged number
 ranged number (l, m) =
@@ -49,7 +35,7 @@ ranged number (l, m) =
     of-kind Set (numbered-set number (leb-false number 3 e) (leb-true number 6 f)) (omega (arith, leb-false number 3 e, leb-true number 6 f)))
     (λ (f : leb number 6 ≡ false). of-kind Table (numbered-table number (leb-false number 6 f)) (omega (arith, leb-false number 6 f))))
   where
-    widths : (kind : Kind) → (lastNumber kind ≤ firstNumber kind + 4) × (lastNumber kind ≤ 11)
+    widths : (kind : Kind) → lastNumber kind ≤ firstNumber kind + 4
     widths Stack = omega arith
     widths Set = omega arith
     widths Table = omega arith
@@ -59,7 +45,15 @@ ranged number (l, m) =
         let f : firstOf number ≡ firstNumber kind = ap firstNumber e in
         let g : lastOf number ≡ lastNumber kind = ap lastNumber e in
         let w = widths kind in
-        record { least = omega arith; most = omega arith; width = omega arith; end = omega arith }
+        record { least = omega arith; most = omega arith; width = omega arith }
+
+pub narrow : (number : ℕ) → number ≤ 6 → widthOf number ≡ 3
+narrow number l =
+    split (leb number 3) (λ (e : leb number 3 ≡ true). rw (numbered-stack number (leb-true number 3 e)))
+    (λ (e : leb number 3 ≡ false). rw (numbered-set number (leb-false number 3 e) l))
+
+pub broad : (number : ℕ) → 6 < number → widthOf number ≡ 5
+broad number l = rw (numbered-table number l)
 
 -- Of an operation: its number's kind is its own.
 pub placed : (o : Operation) → (kindNumbered (numberOf o) ≡ kindOf o) × Numbered (numberOf o)
@@ -94,21 +88,15 @@ module _ (whole same b : ℕ) where
 -- ---- The columns in turn
 
 module _ (rules : Kind → Rules) (number : ℕ) (whole same : List ℕ) where
-  pub picked-none : (n : ℕ) → n ≡ 0 → Holds 0 (Picked rules number whole same n)
-  picked-none n e =
-      holds-none (Picked rules number whole same n) (λ b p. some-none (λ m. has (pickedAt rules number whole same m) b ≡ true) (rw e at p))
+  pub picked-none : Holds 0 (Picked rules number whole same 0)
+  picked-none = holds-none (Picked rules number whole same 0) (λ b. some-none (λ m. has (pickedAt rules number whole same m) b ≡ true))
 
-  pub picked-more : (logged at code chosen u v : ℕ) → at ≡ logged - firstOf number → firstOf number ≤ logged
-      → code ≡ codeAt (rules (kindNumbered number)) (columnOf number) (logged - firstOf number)
-      → ((which : Rule) → code ≡ codeOf which → chosen ≡ picked which (getD whole at 0) (getD same at 0))
-      → Holds u (Picked rules number whole same (logged - firstOf number)) → Members v (λ b. has u b || has chosen b)
-      → Holds v (Picked rules number whole same (logged + 1 - firstOf number))
-  picked-more logged at code chosen u v place l coded chose h joined =
-      let m = logged - firstOf number in
-      let next : logged + 1 - firstOf number ≡ m + 1 = omega arith in
-      let e : chosen ≡ pickedAt rules number whole same m =
-      rw place at (chose (ruleAt (rules (kindNumbered number)) (columnOf number) m) coded) in
-      rw next
-      (holds-same (λ b. Picked rules number whole same m b ⊎ (has chosen b ≡ true)) (Picked rules number whole same (m + 1)) v
+  pub picked-more : (m code chosen u v : ℕ) → code ≡ codeAt (rules (kindNumbered number)) (columnOf number) m
+      → ((which : Rule) → code ≡ codeOf which → chosen ≡ picked which (getD whole m 0) (getD same m 0))
+      → Holds u (Picked rules number whole same m) → Members v (λ b. has u b || has chosen b)
+      → Holds v (Picked rules number whole same (m + 1))
+  picked-more m code chosen u v coded chose h joined =
+      let e : chosen ≡ pickedAt rules number whole same m = chose (ruleAt (rules (kindNumbered number)) (columnOf number) m) coded in
+      holds-same (λ b. Picked rules number whole same m b ⊎ (has chosen b ≡ true)) (Picked rules number whole same (m + 1)) v
       (holds-join (Picked rules number whole same m) (λ b. has chosen b ≡ true) u chosen v h (λ b. (λ x. x, λ x. x)) joined)
-      (λ b. rw e (some-more (λ k. has (pickedAt rules number whole same k) b ≡ true) m)))
+      (λ b. rw e (some-more (λ k. has (pickedAt rules number whole same k) b ≡ true) m))

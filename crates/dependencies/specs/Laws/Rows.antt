@@ -13,7 +13,8 @@ use lib.Seq.{getD-set-same, getD-set-other}
 use Rattle.operations.specs.Laws.Cases
 use Rattle.operations.specs.Laws.Cases.{split}
 use Rattle.bitset.specs.Bitset.{has, Represents}
-use Rattle.dependencies.specs.Dependencies.{transactionAt, numberAt, columnOf, Owned, WithOwner, EntryRead, On, Alike, Gathered, Latest}
+use Rattle.pairs.specs.Pairs.{columnOf}
+use Rattle.dependencies.specs.Dependencies.{transactionAt, numberAt, Owned, WithOwner, EntryRead, On, Alike, Gathered, Latest}
 use Rattle.dependencies.specs.Laws.Sets.{some-more, blank, holds-none, represents-same}
 
 -- ---- One entry more
