@@ -4,7 +4,7 @@ use mathlib.Core.Path.{_≡_}
 use mathlib.Core.Bool.{cond, _||_}
 use mathlib.Core.List.{List, [], _∷_}
 use lib.Dec.{eqb}
-use lib.ListN.{length, drop}
+use lib.ListN.{length, getD, drop}
 use Rattle.operations.specs.Operations.{Row, Operation, Reply, next, reply}
 use Rattle.operations.specs.Log.{Entry}
 use Rattle.store.specs.Store.{onObject}
@@ -32,6 +32,17 @@ pub record NextEntry (w : List ℕ) (o from at : ℕ) : Type 0 where
   pub within : at ≤ word w 0
   pub passed : entriesFrom w o from ≡ entriesFrom w o at
   pub own : at < word w 0 → word w (entryStart at + 1) ≡ o
+
+-- From place n of the log on, each entry's link is the next entry of its object.
+pub record Links (w : List ℕ) (n : ℕ) (links : List ℕ) : Type 0 where
+  pub entries : length links ≡ 256
+  pub later : (i : ℕ) → n ≤ i → i < word w 0 → NextEntry w (word w (entryStart i + 1)) (i + 1) (getD links i 0)
+
+-- Besides, each object's head is its first entry there.
+pub record Linked (w : List ℕ) (n : ℕ) (heads links : List ℕ) : Type 0 where
+  pub objects : length heads ≡ 16
+  pub first : (o : ℕ) → o < 16 → NextEntry w o n (getD heads o 0)
+  pub onward : Links w n links
 
 -- How many rows an operation may need, by its number: one for a push or an insert.
 abbrev pub rowsNeeded : ℕ → ℕ

@@ -1,3 +1,4 @@
 pub mod Entries
+pub mod Links
 pub mod Replay
 pub mod Whole

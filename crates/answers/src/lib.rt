@@ -3,12 +3,11 @@ use operations::Reply;
 ghost use mathlib.Core.Path.{_≡_};
 ghost use mathlib.Core.Bool.{true};
 ghost use mathlib.Core.Logic.{_↔_};
-ghost use Prim.Native.Nat.{_<_, _≤_};
-ghost use lib.ListN.{length};
+ghost use Prim.Native.Nat.{_<_};
 ghost use Rattle.operations.specs.Stored.{asReply};
 ghost use Rattle.store.specs.Layout.{word, decode, Packed, base};
 ghost use Rattle.store.specs.Soundness.{EntriesFit, EntriesAnswered, Room};
-ghost use Rattle.answers.specs.Answers.{NextEntry, rowsNeeded, ObjectAnswered};
+ghost use Rattle.answers.specs.Answers.{NextEntry, Links, Linked, rowsNeeded, ObjectAnswered};
 
 // How many rows an object has room for.
 const ROWS: usize = 64;
@@ -19,20 +18,19 @@ fn wide(x: u32) -> usize
     x as usize
 }
 
-// The object's first entry at or after a place, or the number of entries.
-fn next_entry(book: &[u32], object: usize, from: usize) -> usize
-    requires { ⌜ (length (now book) ≡ 3937) × (word (now book) 0 ≤ 256) × (from ≤ word (now book) 0) ⌝ }
-    ensures { λ r. ⌜ NextEntry (now (book .entry)) object from r ⌝ }
+// Links the log's entries by object, from the last: the first entry of each object, and at each entry the next one of its object.
+// The number of entries stands for no entry.
+fn link(book: &[u32], heads: &mut [usize; 16], links: &mut [usize; 256])
+    requires { ⌜ Packed base (now book) × EntriesFit base (decode base (now book)) × Linked (now book) (word (now book) 0) (now heads) (now links) ⌝ }
+    ensures { λ r. ⌜ Linked (now (book .entry)) 0 (now (heads .exit)) (now (links .exit)) ⌝ }
 {
-    let entries = layout::entry_count(book);
-    let mut i = from;
-    while i < entries {
-        if wide(layout::entry_object(book, i)) == object {
-            return i;
-        }
-        i += 1;
+    let mut i = layout::entry_count(book);
+    while i > 0 {
+        i -= 1;
+        let object = wide(layout::entry_object(book, i));
+        links[i] = heads[object];
+        heads[object] = i;
     }
-    i
 }
 
 // How many rows an operation may need: one for a push or an insert.
@@ -52,15 +50,15 @@ fn same_reply(a: Reply, b: Reply) -> bool
 }
 
 // Whether an object's rows with its pushes and inserts are within the room, and its entries, replayed in order, get their answers.
-fn object_answered(book: &[u32], object: usize) -> bool
-    requires { ⌜ Packed base (now book) × (object < 16) ⌝ }
+fn object_answered(book: &[u32], object: usize, first: usize, links: &[usize; 256]) -> bool
+    requires { ⌜ Packed base (now book) × (object < 16) × NextEntry (now book) object 0 first × Links (now book) 0 (now links) ⌝ }
     ensures { λ r. ⌜ (r ≡ true) ↔ ObjectAnswered (now (book .entry)) object ⌝ }
 {
     let entries = layout::entry_count(book);
-    let mut i = next_entry(book, object, 0);
-    if i == entries {
+    if first == entries {
         return true;
     }
+    let mut i = first;
     let mut rows = layout::copied_rows(book, object);
     let mut count = layout::row_count(book, object);
     let mut used = count;
@@ -80,7 +78,7 @@ fn object_answered(book: &[u32], object: usize) -> bool
             rows = replay::next_rows(rows, count, at, operation);
         }
         count = next;
-        i = next_entry(book, object, i + 1);
+        i = links[i];
     }
     true
 }
@@ -90,11 +88,15 @@ pub fn answered(book: &[u32]) -> bool
     requires { ⌜ Packed base (now book) × EntriesFit base (decode base (now book)) ⌝ }
     ensures { λ r. ⌜ (r ≡ true) ↔ (Room base (decode base (now (book .entry))) × EntriesAnswered base (decode base (now (book .entry)))) ⌝ }
 {
-    if layout::entry_count(book) == 0 {
+    let entries = layout::entry_count(book);
+    if entries == 0 {
         return true;
     }
+    let mut heads = [entries; 16];
+    let mut links = [0usize; 256];
+    link(book, &mut heads, &mut links);
     for object in 0..layout::OBJECTS {
-        if !object_answered(book, object) {
+        if !object_answered(book, object, heads[object], &links) {
             return false;
         }
     }

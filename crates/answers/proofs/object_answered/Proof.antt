@@ -1,56 +1,53 @@
 -- `answers::object_answered`: what is left to replay is answered exactly where the whole is.
-use Prim.Native.Nat.{_-_, _≤_, _<_}
+use Prim.Native.Nat.{_+_, _-_, _≤_, _<_}
 use mathlib.Core.Path.{_≡_, _∙_}
 use mathlib.Core.Logic.{⊎-elim}
 use native.Mathlib.Omega.{arith}
 use borrow.Author.Needs.{needs}
 use borrow.Author.Tests.{not-false}
-use lib.ListN.{length}
+use lib.ListN.{length, getD}
 use Rattle.replay.specs.Replay.{nextOf, rowsOf, Holds, Placed}
 use Rattle.store.specs.Layout.{word, Packed, base}
 use Rattle.answers.specs.Laws.Entries.{needed-few}
+use Rattle.answers.specs.Answers.{NextEntry}
+use Rattle.answers.specs.Laws.Links.{next-linked}
 use Rattle.answers.specs.Laws.Replay.{Replaying, Reached, untouched, start, replayed, full, wrong, next-fits, turn}
 use Rattle.answers.proofs.object_answered.Statement.{statement}
 use Rattle.answers.proofs.object_answered.Tie as tie
 
 abbrev Inv-loop : tie.InvT-loop
-Inv-loop book object entries i₀ rows₀ count₀ used₀ i rows count used = Replaying book object i rows count used
+Inv-loop book object first links entries i₀ rows₀ count₀ used₀ i rows count used = Replaying book object i rows count used
 
 abbrev μ-loop : tie.MeasureT-loop
-μ-loop book object entries i₀ rows₀ count₀ used₀ i rows count used = entries - i
-
-next-entry-requires : tie.Need-next-entry-requires Inv-loop μ-loop
-next-entry-requires c κs = let packed = c .before .before .pre .0 in (packed .words, packed .entries, omega arith)
+μ-loop book object first links entries i₀ rows₀ count₀ used₀ i rows count used = entries - i
 
 returns : tie.Need-returns Inv-loop μ-loop
 returns c =
-    let begin = c .before .before .before .before in
-    untouched (begin .args .book .now) (begin .pre .0) (begin .args .object) (begin .pre .1) (c .before .next-entry .result) (c .before .next-entry .ensures)
-    (c .if1 .taken ∙ c .before .before .entry-count .ensures)
+    let begin = c .before .before .before in
+    untouched (begin .args .book .now) (begin .pre .0) (begin .args .object) (begin .pre .1) (begin .args .first) (begin .pre .2) (c .if1 .taken ∙ c .before .entry-count .ensures)
 
 copied-rows-requires : tie.Need-copied-rows-requires Inv-loop μ-loop
-copied-rows-requires c κs = let (packed, l) = c .before .before .before .before .pre in (packed .words, l, packed .objects _ l .rows)
+copied-rows-requires c κs = let (packed, l, first, links) = c .before .before .before .pre in (packed .words, l, packed .objects _ l .rows)
 
 row-count-requires : tie.Need-row-count-requires Inv-loop μ-loop
-row-count-requires c κs = let (packed, l) = c .before .before .before .before .before .pre in (packed .words, l)
+row-count-requires c κs = let (packed, l, first, links) = c .before .before .before .before .pre in (packed .words, l)
 
 loop-holds : tie.Need-loop-holds Inv-loop μ-loop
 loop-holds c =
-    let found = c .before .before .before in
-    let begin = found .before .before .before in
-    start (begin .args .book .now) (begin .pre .0) (begin .args .object) (begin .pre .1) (found .next-entry .result) (found .next-entry .ensures)
-    (c .before .copied-rows .result) (c .row-count .result) (c .before .copied-rows .ensures) (c .row-count .ensures)
+    let begin = c .before .before .before .before .before in
+    start (begin .args .book .now) (begin .pre .0) (begin .args .object) (begin .pre .1) (begin .args .first) (begin .pre .2) (c .before .copied-rows .result)
+    (c .row-count .result) (c .before .copied-rows .ensures) (c .row-count .ensures)
 
 -- ---- In the loop
 
 abbrev begin : tie.At-loop Inv-loop μ-loop → tie.Start Inv-loop μ-loop
-begin c = c .before .before .before .before .before .before .before
+begin c = c .before .before .before .before .before .before
 
 abbrev packed : (c : tie.At-loop Inv-loop μ-loop) → Packed base (begin c .args .book .now)
 packed c = begin c .pre .0
 
 inside : (c : tie.In-loop Inv-loop μ-loop) → c .before .loop .i < word (begin (c .before) .args .book .now) 0
-inside c = omega (arith, c .loop-test .taken, c .before .before .before .before .before .before .entry-count .ensures)
+inside c = omega (arith, c .loop-test .taken, c .before .before .before .before .before .entry-count .ensures)
 
 readable : (c : tie.In-loop Inv-loop μ-loop) → (length (begin (c .before) .args .book .now) ≡ 3937) × (c .before .loop .i < 256)
 readable c = (packed (c .before) .words, omega (arith, inside c, packed (c .before) .entries))
@@ -123,18 +120,26 @@ replayed-rows c =
     (λ w. rw (w .1) (c .before .keeps-rows .ensures (not-false _ (w .0 .left))))
     (c .if4 .came)
 
-add-next-entry : tie.Need-add-next-entry Inv-loop μ-loop
-add-next-entry c = omega (arith, readable (placed (c .before .before .before .before) .before .before .before .before .before))
+-- The link leads to the object's next entry.
+abbrev in-loop : tie.Joined4 Inv-loop μ-loop → tie.In-loop Inv-loop μ-loop
+in-loop c = placed (c .before .before .before .before) .before .before .before .before .before
 
-next-entry-requires-2 : tie.Need-next-entry-requires-2 Inv-loop μ-loop
-next-entry-requires-2 c κs =
-    let turn = placed (c .before .before .before .before) .before .before .before .before .before in
-    (packed (turn .before) .words, packed (turn .before) .entries, omega (arith, inside turn))
+next : (c : tie.Joined4 Inv-loop μ-loop) → let at-loop = in-loop c .before in
+    let args = begin at-loop .args in
+    NextEntry (args .book .now) (args .object) (at-loop .loop .i + 1) (getD (args .links .now) (at-loop .loop .i) 0)
+next c =
+    let at-loop = in-loop c .before in
+    let start = begin at-loop in
+    next-linked (start .args .book .now) (start .args .links .now) (start .pre .3) (start .args .object) (at-loop .loop .i) (inside (in-loop c)) (at-loop .loop .inv .own (inside (in-loop c)))
+
+mul-i : tie.Need-mul-i Inv-loop μ-loop
+mul-i c = omega (arith, readable (in-loop c))
+
+element-copy-out-i : tie.Need-element-copy-out-i Inv-loop μ-loop
+element-copy-out-i c = omega (arith, readable (in-loop c))
 
 loop-less : tie.Need-loop-less Inv-loop μ-loop
-loop-less c =
-    let turn = placed (c .before .before .before .before .before) .before .before .before .before .before in
-    omega (arith, c .next-entry2 .ensures .after, turn .loop-test .taken)
+loop-less c = omega (arith, next (c .before) .after, in-loop (c .before) .loop-test .taken)
 
 loop-again : tie.Need-loop-again Inv-loop μ-loop
 loop-again c =
@@ -145,10 +150,10 @@ loop-again c =
     let room = placed (counted .before) .before .before in
     turn (reached (room .before)) (reply .reply .result) (answer .entry-answer .result) (tested .before .same-reply .result) (reply .reply .ensures)
     (answer .entry-answer .ensures) (tested .before .same-reply .ensures) (tested .if3 .left) (room .if2 .left) (c .before .if4 .rows)
-    (counted .next-count .result) (c .next-entry2 .result) (replayed-rows (c .before)) (counted .next-count .ensures) (c .next-entry2 .ensures)
+    (counted .next-count .result) _ (replayed-rows (c .before)) (counted .next-count .ensures) (next (c .before))
 
 returns-4 : tie.Need-returns-4 Inv-loop μ-loop
-returns-4 c = replayed (c .before .loop .inv) (omega (arith, c .loop-test .left, c .before .before .before .before .before .before .entry-count .ensures))
+returns-4 c = replayed (c .before .loop .inv) (omega (arith, c .loop-test .left, c .before .before .before .before .before .entry-count .ensures))
 
 pub object-answered-spec : {M : Type 1} → statement M
 object-answered-spec =
@@ -157,7 +162,6 @@ object-answered-spec =
     Inv-loop
     μ-loop
     (λ c κs. search needs)
-    next-entry-requires
     returns
     copied-rows-requires
     row-count-requires
@@ -174,8 +178,8 @@ object-answered-spec =
     next-count-requires
     keeps-rows-requires
     next-rows-requires
-    add-next-entry
-    next-entry-requires-2
+    mul-i
+    element-copy-out-i
     loop-less
     loop-again
     returns-4)
