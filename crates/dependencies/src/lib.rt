@@ -3,7 +3,7 @@
 ghost use mathlib.Core.Path.{_≡_};
 ghost use mathlib.Core.Bool.{true};
 ghost use mathlib.Core.Logic.{_↔_};
-ghost use Prim.Native.Nat.{_+_, _-_, _<_};
+ghost use Prim.Native.Nat.{_+_, _<_};
 ghost use Rattle.bitset.specs.Bitset.{Holds, Represents};
 ghost use Rattle.operations.specs.PairRules.{Rule, recoverableRules, commutingRules};
 ghost use Rattle.pairs.specs.Pairs.{codeOf, Numbered, firstOf, columnOf, widthOf};

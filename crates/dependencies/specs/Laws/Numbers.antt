@@ -1,11 +1,11 @@
 -- Operations by number: their kinds and columns, and what the rules pick.
-use Prim.Native.Nat.{ℕ, _+_, _-_, _≤_, _<_}
+use Prim.Native.Nat.{ℕ, _+_, _≤_, _<_}
 use mathlib.Core.Path.{_≡_, refl, sym, ap, _∙_}
 use mathlib.Core.Bool.{true, false, _||_, true≢false}
 use mathlib.Core.Logic.{_⊎_, inl, inr}
 use mathlib.Core.List.{List}
 use native.Mathlib.Omega.{arith}
-use borrow.Author.Tests.{le-leb, lt-leb, leb-true, leb-false, eqb-true, not-false}
+use borrow.Author.Tests.{leb-true, leb-false, eqb-true, not-false}
 use lib.Dec.{leb, eqb}
 use lib.ListN.{getD}
 use Rattle.operations.specs.Operations.{Kind, Stack, Set, Table, push, pop, top, setInsert, setDelete, member, tableInsert, tableDelete, lookup, size, modify, Operation, onStack, onSet, onTable, kindOf, numberOf, keyOf}
