@@ -12,22 +12,16 @@ ghost use Rattle.answers.specs.Answers.{NextEntry, Links, Linked, rowsNe
 // How many rows an object has room for.
 const ROWS: usize = 64;
 
-fn wide(x: u32) -> usize
-    ensures { λ r. ⌜ r ≡ x ⌝ }
-{
-    x as usize
-}
-
 // Links the log's entries by object, from the last: the first entry of each object, and at each entry the next one of its object.
 // The number of entries stands for no entry.
 fn link(book: &[u32], heads: &mut [usize; 16], links: &mut [usize; 256])
-    requires { ⌜ Packed base (now book) × EntriesFit base (decode base (now book)) × Linked (now book) (word (now book) 0) (now heads) (now links) ⌝ }
+    requires { ⌜ Packed base (now book) × EntriesFit (decode base (now book)) × Linked (now book) (word (now book) 0) (now heads) (now links) ⌝ }
     ensures { λ r. ⌜ Linked (now (book .entry)) 0 (now (heads .exit)) (now (links .exit)) ⌝ }
 {
     let mut i = layout::entry_count(book);
     while i > 0 {
         i -= 1;
-        let object = wide(layout::entry_object(book, i));
+        let object = layout::wide(layout::entry_object(book, i));
         links[i] = heads[object];
         heads[object] = i;
     }
@@ -85,7 +79,7 @@ fn object_answered(book: &[u32], object: usize, first: usize, links: &[usize; 25
 
 // Whether both hold of every object.
 pub fn answered(book: &[u32]) -> bool
-    requires { ⌜ Packed base (now book) × EntriesFit base (decode base (now book)) ⌝ }
+    requires { ⌜ Packed base (now book) × EntriesFit (decode base (now book)) ⌝ }
     ensures { λ r. ⌜ (r ≡ true) ↔ (Room base (decode base (now (book .entry))) × EntriesAnswered base (decode base (now (book .entry)))) ⌝ }
 {
     let entries = layout::entry_count(book);

@@ -147,16 +147,6 @@ module _ (P : ℕ → Type 0) (set : ℕ) where
 
 -- ---- What the functions return
 
-module _ {A : Type 0} where
-  pub yes : A → (true ≡ true) ↔ A
-  yes a = (λ e. a, λ b. refl)
-
-  pub no : (A → ⊥) → (false ≡ true) ↔ A
-  no n = (λ e. absurd (false≢true e), λ a. absurd (n a))
-
-  pub denied : (r : Bool) → (r ≡ true) ↔ A → r ≡ false → A → ⊥
-  denied r answer e a = true≢false (sym (answer .1 a) ∙ e)
-
 pub nobody : (set found : ℕ) → found ≡ set → (eqb found 0 ≡ true) ↔ ((u : ℕ) → In set u → ⊥)
 nobody set found e = (
   λ (z : eqb found 0 ≡ true) (u : ℕ). empty set u (sym e ∙ eqb-true found 0 z),

@@ -203,7 +203,7 @@ fn gather(book: &[u32], i: usize, at: usize, whole: &mut [Owners; 16], same: &mu
 }
 
 pub fn conflicts(book: &[u32]) -> LogConflicts
-    requires { ⌜ Packed base (now book) × EntriesLive base (decode base (now book)) × EntriesFit base (decode base (now book)) ⌝ }
+    requires { ⌜ Packed base (now book) × EntriesLive (decode base (now book)) × EntriesFit (decode base (now book)) ⌝ }
     ensures { λ r. ⌜ ((r .recoverable ≡ true) ↔ EntriesRecoverable base (decode base (now (book .entry)))) × Represents (r .dependencies) (DependsOn (decode base (now (book .entry)) .log)) ⌝ }
 {
     let count = layout::entry_count(book);

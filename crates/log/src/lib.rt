@@ -118,7 +118,7 @@ fn entry_fits(book: &[u32], live: u64, i: usize) -> bool
 // Whether each entry belongs to a live transaction, fits its object's kind and has a reduced key.
 pub fn fits(book: &[u32], live: u64) -> bool
     requires { ⌜ Packed base (now book) × Holds live (Live (decode base (now book))) ⌝ }
-    ensures { λ r. ⌜ (r ≡ true) ↔ (EntriesLive base (decode base (now (book .entry))) × EntriesFit base (decode base (now (book .entry))) × KeysReduced base (decode base (now (book .entry)))) ⌝ }
+    ensures { λ r. ⌜ (r ≡ true) ↔ (EntriesLive (decode base (now (book .entry))) × EntriesFit (decode base (now (book .entry))) × KeysReduced base (decode base (now (book .entry)))) ⌝ }
 {
     let count = layout::entry_count(book);
     for i in 0..count {

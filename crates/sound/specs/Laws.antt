@@ -1,12 +1,13 @@
 -- Laws for the functions of `sound`.
 use Prim.Native.Nat.{ℕ}
-use mathlib.Core.Path.{_≡_, sym, _∙_}
-use mathlib.Core.Bool.{Bool, true, false, true≢false, false≢true}
+use mathlib.Core.Path.{_≡_, refl}
+use mathlib.Core.Bool.{Bool, true, false}
 use mathlib.Core.Logic.{_↔_}
 use mathlib.Core.List.{List}
 use native.Mathlib.Nat.{le-refl}
 use lib.ListN.{length}
 use Rattle.bitset.specs.Bitset.{Holds, Represents, In}
+use Rattle.operations.specs.Laws.Cases.{no, denied}
 use Rattle.store.specs.Store.{Store, Live, PseudoCommitted}
 use Rattle.store.specs.Dependency.{DependsOn, Way}
 use Rattle.store.specs.Layout.{base, Packed}
@@ -17,10 +18,10 @@ use Rattle.cycles.specs.Cycles.{EdgeIn}
 
 -- A clause that fails refuses the whole.
 pub refused : {b : Bool} {P Q : Type 0} → (b ≡ true) ↔ P → b ≡ false → (Q → P) → (false ≡ true) ↔ Q
-refused decided fails part = (λ e. absurd (false≢true e), λ q. absurd (true≢false (sym (decided .1 (part q)) ∙ fails)))
+refused decided fails part = no refl (λ q. denied decided fails (part q))
 
 pub of-another-length : (w : List ℕ) → (length w ≡ 3_937 → ⊥) → (false ≡ true) ↔ Packed base w
-of-another-length w other = (λ e. absurd (false≢true e), λ (p : Packed base w). absurd (other (p .words)))
+of-another-length w other = no refl (λ (p : Packed base w). other (p .words))
 
 -- Where all but the last clause hold, the last decides.
 pub last : {b : Bool} {P Q : Type 0} → (b ≡ true) ↔ P → (P → Q) → (Q → P) → (b ≡ true) ↔ Q
@@ -36,7 +37,7 @@ module _ (s : Store) (sets : List ℕ) (finished : ℕ) (edges : Represents sets
         (way-monotone (EdgeIn sets) (DependsOn (s .log)) (In finished) (PseudoCommitted s) (λ a b. edges a b .0) (λ c. members c .0) 64 64 (le-refl 64) t t w),
   )
 
-  pub dependent-said : EntriesLive base s → ((t : ℕ) → In finished t → (u : ℕ) × EdgeIn sets t u) ↔ Dependent s
+  pub dependent-said : EntriesLive s → ((t : ℕ) → In finished t → (u : ℕ) × EdgeIn sets t u) ↔ Dependent s
   dependent-said live = (
     λ some t p. let d = some t (members t .1 p) in
         let depends = edges t (d .0) .0 (d .1) in

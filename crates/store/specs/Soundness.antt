@@ -14,57 +14,55 @@ use Rattle.store.specs.Layout.{Format, decode, Packed}
 abbrev pub OfKind : (ℕ → Kind → Type 0) → Store → Type 0
 OfKind P s = (o : ℕ) (kind : Kind) → objectOf s o .kind ≡ some kind → P o kind
 
-module _ (format : Format) (s : Store) where
-  -- The rows of each object are of its kind's form.
-  abbrev pub RowsFormed : Type 0
-  RowsFormed = OfKind (λ o kind. WellFormed (format .reduce) kind (objectOf s o .rows)) s
+-- The rows of each object are of its kind's form.
+abbrev pub RowsFormed : Format → Store → Type 0
+RowsFormed format s = OfKind (λ o kind. WellFormed (format .reduce) kind (objectOf s o .rows)) s
 
-  -- Each log entry belongs to a live transaction,
-  abbrev pub EntriesLive : Type 0
-  EntriesLive = All (λ (l : Logged). Live s (l .entry .transaction)) (s .log)
+-- Each log entry belongs to a live transaction,
+abbrev pub EntriesLive : Store → Type 0
+EntriesLive s = All (λ (l : Logged). Live s (l .entry .transaction)) (s .log)
 
-  -- fits its object's kind,
-  abbrev pub EntriesFit : Type 0
-  EntriesFit = All (λ (l : Logged). objectOf s (l .object) .kind ≡ some (kindOf (l .entry .operation))) (s .log)
+-- fits its object's kind,
+abbrev pub EntriesFit : Store → Type 0
+EntriesFit s = All (λ (l : Logged). objectOf s (l .object) .kind ≡ some (kindOf (l .entry .operation))) (s .log)
 
-  -- and its key is reduced.
-  abbrev pub KeysReduced : Type 0
-  KeysReduced = All (λ (l : Logged). StoredKey (format .reduce) (l .entry .operation)) (s .log)
+-- and its key is reduced.
+abbrev pub KeysReduced : Format → Store → Type 0
+KeysReduced format s = All (λ (l : Logged). StoredKey (format .reduce) (l .entry .operation)) (s .log)
 
-  -- It is recoverable against every earlier entry of another transaction on that object.
-  abbrev pub EntriesRecoverable : Type 0
-  EntriesRecoverable = OfKind (λ o kind. Recoverable (object (format .reduce) kind) (onObject o (s .log))) s
+-- It is recoverable against every earlier entry of another transaction on that object.
+abbrev pub EntriesRecoverable : Format → Store → Type 0
+EntriesRecoverable format s = OfKind (λ o kind. Recoverable (object (format .reduce) kind) (onObject o (s .log))) s
 
-  -- Its answer is the one replay gives.
-  abbrev pub EntriesAnswered : Type 0
-  EntriesAnswered = OfKind (λ o kind. Answered (object (format .reduce) kind) (onObject o (s .log)) (objectOf s o .rows)) s
+-- Its answer is the one replay gives.
+abbrev pub EntriesAnswered : Format → Store → Type 0
+EntriesAnswered format s = OfKind (λ o kind. Answered (object (format .reduce) kind) (onObject o (s .log)) (objectOf s o .rows)) s
 
-  -- For each object, rows plus logged pushes and inserts are within the limit.
-  abbrev pub Room : Type 0
-  Room = (o : ℕ) → format .used s o ≤ format .limit
+-- For each object, rows plus logged pushes and inserts are within the limit.
+abbrev pub Room : Format → Store → Type 0
+Room format s = (o : ℕ) → format .used s o ≤ format .limit
 
-module _ (s : Store) where
-  -- No two transactions have one rank,
-  abbrev pub OnceEach : Type 0
-  OnceEach = (t u rank : ℕ) → statusOf s t ≡ pseudoCommitted rank → statusOf s u ≡ pseudoCommitted rank → t ≡ u
+-- No two transactions have one rank,
+abbrev pub OnceEach : Store → Type 0
+OnceEach s = (t u rank : ℕ) → statusOf s t ≡ pseudoCommitted rank → statusOf s u ≡ pseudoCommitted rank → t ≡ u
 
-  -- and every number below a rank is a rank too: ranks are 0, 1, 2 and on.
-  abbrev pub WithoutGaps : Type 0
-  WithoutGaps = (t rank lower : ℕ) → statusOf s t ≡ pseudoCommitted rank → lower < rank → (u : ℕ) × (statusOf s u ≡ pseudoCommitted lower)
+-- and every number below a rank is a rank too: ranks are 0, 1, 2 and on.
+abbrev pub WithoutGaps : Store → Type 0
+WithoutGaps s = (t rank lower : ℕ) → statusOf s t ≡ pseudoCommitted rank → lower < rank → (u : ℕ) × (statusOf s u ≡ pseudoCommitted lower)
 
-  -- Pseudo-committed (finished) transactions form no cycle.
-  abbrev pub Acyclic : Type 0
-  Acyclic = (t : ℕ) → PseudoCommitted s t → OnCycle s t → ⊥
+-- Pseudo-committed (finished) transactions form no cycle.
+abbrev pub Acyclic : Store → Type 0
+Acyclic s = (t : ℕ) → PseudoCommitted s t → OnCycle s t → ⊥
 
-  -- Each pseudo-committed transaction depends on a live one.
-  abbrev pub Dependent : Type 0
-  Dependent = (t : ℕ) → PseudoCommitted s t → (u : ℕ) × Live s u × DependsOn (s .log) t u
+-- Each pseudo-committed transaction depends on a live one.
+abbrev pub Dependent : Store → Type 0
+Dependent s = (t : ℕ) → PseudoCommitted s t → (u : ℕ) × Live s u × DependsOn (s .log) t u
 
 module _ (format : Format) where
   pub record SoundStore (s : Store) : Type 0 where
     pub rows : RowsFormed format s
-    pub live : EntriesLive format s
-    pub fits : EntriesFit format s
+    pub live : EntriesLive s
+    pub fits : EntriesFit s
     pub reduced : KeysReduced format s
     pub recoverable : EntriesRecoverable format s
     pub answered : EntriesAnswered format s

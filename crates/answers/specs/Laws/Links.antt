@@ -64,7 +64,7 @@ pub next-linked : (w links : List ℕ) → Links w 0 links → (o i : ℕ) → i
 next-linked w links c o i l own = subst (λ (p : ℕ). NextEntry w p (i + 1) (getD links i 0)) own (c .later i (omega arith) l)
 
 -- Entries fit their objects' kinds, so each is of an object.
-pub object-below : (w : List ℕ) → EntriesFit base (decode base w) → (i : ℕ) → i < word w 0 → word w (entryStart i + 1) < 16
+pub object-below : (w : List ℕ) → EntriesFit (decode base w) → (i : ℕ) → i < word w 0 → word w (entryStart i + 1) < 16
 object-below w fits i l =
     kind-below base w (word w (entryStart i + 1)) (kindOf (operationAt w i))
     (all-each (λ (e : Logged). objectOf (decode base w) (e .object) .kind ≡ some (kindOf (e .entry .operation))) (word w 0) (entryAt w) fits i l)

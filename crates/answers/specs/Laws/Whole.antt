@@ -44,7 +44,7 @@ kinded : {A : Type 0} (k : Option Kind) → (k ≡ none → A) → ((kind : Kind
 kinded none f g = f refl
 kinded (some kind) f g = g kind refl
 
-module _ (w : List ℕ) (fits : EntriesFit base (decode base w)) where
+module _ (w : List ℕ) (fits : EntriesFit (decode base w)) where
   rows-read : (o : ℕ) → o < 16 → objectOf (decode base w) o .rows ≡ rowsAt w o
   rows-read o l = ap (λ (x : Object). x .rows) (object-read base w o l)
 

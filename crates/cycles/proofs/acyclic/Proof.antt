@@ -1,6 +1,8 @@
 -- `cycles::acyclic`: those passed lie on no cycle.
+use mathlib.Core.Path.{refl}
 use borrow.Author.Needs.{needs}
-use Rattle.cycles.specs.Laws.{OffCycle, Walk, walk-begun, walk-turned, walk-ended, walk-stopped, rest-less, yes, no, denied}
+use Rattle.operations.specs.Laws.Cases.{yes, no, denied}
+use Rattle.cycles.specs.Laws.{OffCycle, Walk, walk-begun, walk-turned, walk-ended, walk-stopped, rest-less}
 use Rattle.cycles.proofs.acyclic.Statement.{statement}
 use Rattle.cycles.proofs.acyclic.Tie as tie
 
@@ -15,7 +17,7 @@ loop-holds c = walk-begun _ _
 
 returns : tie.Need-returns Inv-loop μ-loop
 returns c =
-    no
+    no refl
     (walk-stopped _ _ _ _ (c .before .before .before .before .loop .inv) (c .before .before .lowest .ensures .member)
     (λ off. off (c .before .on-cycle .ensures .0 (c .if1 .taken))))
 
@@ -25,11 +27,11 @@ loop-less c = rest-less _ _ _ (c .without .ensures) (c .before .before .before .
 loop-again : tie.Need-loop-again Inv-loop μ-loop
 loop-again c =
     walk-turned _ _ _ _ _ (c .before .before .before .before .before .loop .inv)
-    (denied _ (c .before .before .on-cycle .ensures) (c .before .if1 .left))
+    (denied (c .before .before .on-cycle .ensures) (c .before .if1 .left))
     (c .without .ensures)
 
 returns-2 : tie.Need-returns-2 Inv-loop μ-loop
-returns-2 c = yes (walk-ended _ _ _ (c .before .loop .inv) (c .loop-test .left))
+returns-2 c = yes refl (walk-ended _ _ _ (c .before .loop .inv) (c .loop-test .left))
 
 pub acyclic-spec : {M : Type 1} → statement M
 acyclic-spec =

@@ -82,7 +82,7 @@ against : (related : Operation → Operation → Bool) (w : List ℕ) (n j i : �
 against related w n j i l m f = (i, m, (refl, (j, l, (refl, f))))
 
 module _ (w : List ℕ) where
-  module _ (live : EntriesLive base (decode base w)) (fits : EntriesFit base (decode base w)) where
+  module _ (live : EntriesLive (decode base w)) (fits : EntriesFit (decode base w)) where
     of-kind : (i : ℕ) → i < word w 0 → objectOf (decode base w) (objectAt w i) .kind ≡ some (kindOf (operationAt w i))
     of-kind = all-each (λ (l : Logged). objectOf (decode base w) (l .object) .kind ≡ some (kindOf (l .entry .operation))) (word w 0) (entryAt w) fits
 

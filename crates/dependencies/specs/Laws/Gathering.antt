@@ -42,7 +42,7 @@ module _ (w : List ℕ) where
         λ f. ⊎-elim (λ x. inl (f .0, x)) (λ x. inr (x .1)) (more (f .0) .1 (f .1)),
       ))
 
-  module _ (live : EntriesLive base (decode base w)) (fits : EntriesFit base (decode base w)) where
+  module _ (live : EntriesLive (decode base w)) (fits : EntriesFit (decode base w)) where
     pub decided : (sets : List ℕ) (u : ℕ) → Represents sets (BarsBelow commutes w (word w 0)) → Holds u (Unrecoverable w (word w 0))
         → ((eqb u 0 ≡ true) ↔ EntriesRecoverable base (decode base w)) × Represents sets (DependsOn (decode base w .log))
     decided sets u h g =

@@ -1,7 +1,7 @@
 -- `log::is_stored`: each arm asks for 0 where its operations use no argument. `2 | 3` and `4 | 5 | 6 | 8 | 9` come as tests of a range.
 use mathlib.Core.Path.{refl}
 use mathlib.Core.Logic.{inl, inr, ⊎-elim}
-use Rattle.log.specs.Laws.Checks.{yes, no}
+use Rattle.operations.specs.Laws.Cases.{yes, no}
 use Rattle.log.specs.Laws.Packing.{Bare, KeyAlone, stored-both, stored-below, stored-above, keyed-test, bare-test, bare-keyed}
 use Rattle.log.proofs.is_stored.Statement.{statement}
 use Rattle.log.proofs.is_stored.Tie as tie

@@ -8,6 +8,7 @@ use mathlib.Core.List.{List}
 use native.Mathlib.Omega.{arith}
 use borrow.Author.Tests.{eqb-true, eq-eqb, ltb-true, lt-ltb, le-ltb}
 use lib.Dec.{eqb, ltb}
+use Rattle.operations.specs.Laws.Cases.{yes, no}
 use Rattle.bitset.specs.Bitset.{has}
 use Rattle.operations.specs.Operations.{Kind, Stack, Set, Table, push, pop, top, setInsert, setDelete, member, tableInsert, tableDelete, lookup, size, modify, Operation, onStack, onSet, onTable, kindOf, numberOf, keyOf, reduceKey, Reduced, StoredKey}
 use Rattle.store.specs.Store.{Object, Live, objectOf, Logged}
@@ -16,7 +17,7 @@ use Rattle.store.specs.Soundness.{EntriesLive, EntriesFit, KeysReduced}
 use Rattle.store.specs.Laws.Lists.{all-each, all-of}
 use Rattle.store.specs.Laws.Reading.{live-below, object-read, kind-below}
 use Rattle.log.specs.Log.{kindBy, LiveSet, EntryFits}
-use Rattle.log.specs.Laws.Checks.{yes, no, Each}
+use Rattle.log.specs.Laws.Checks.{Each}
 
 -- ---- Kinds
 
@@ -118,7 +119,7 @@ module _ (w : List ℕ) (i : ℕ) where
 -- ---- All entries
 
 pub each-fits : (w : List ℕ) (n : ℕ) → n ≡ word w 0
-    → Each (EntryFits w) n ↔ (EntriesLive base (decode base w) × EntriesFit base (decode base w) × KeysReduced base (decode base w))
+    → Each (EntryFits w) n ↔ (EntriesLive (decode base w) × EntriesFit (decode base w) × KeysReduced base (decode base w))
 each-fits w n counted =
     let s = decode base w in
     let Alive : Logged → Type 0 = λ (l : Logged). Live s (l .entry .transaction) in

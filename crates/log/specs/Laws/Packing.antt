@@ -12,10 +12,10 @@ use lib.Dec.{eqb}
 use lib.ListN.{length, take, drop, List·getD-eq-default}
 use lib.Seq.{getD-drop}
 use Rattle.operations.specs.Operations.{numbered, stored, numberOf}
-use Rattle.operations.specs.Laws.Cases.{same}
+use Rattle.operations.specs.Laws.Cases.{same, no, denied}
 use Rattle.store.specs.Layout.{word, orPop, entryStart, AsStored}
 use Rattle.log.specs.Log.{LogPacked, StoredWords}
-use Rattle.log.specs.Laws.Checks.{no, fails, Each}
+use Rattle.log.specs.Laws.Checks.{Each}
 
 -- ---- One operation
 
@@ -93,7 +93,7 @@ module _ (w : List ℕ) (n : ℕ) (counted : n ≡ word w 0) where
   too-many l = no refl (λ p. omega (arith, p .0))
 
   pub not-stored : (b : Bool) → b ≡ false → (b ≡ true) ↔ Each (AsStored w) n → (false ≡ true) ↔ LogPacked w
-  not-stored b e h = no refl (λ p. fails e h (rw counted (p .1)))
+  not-stored b e h = no refl (λ p. denied h e (rw counted (p .1)))
 
   -- The words from place a on, as a part of w that is lent.
   abbrev pub from : ℕ → List ℕ

@@ -1,12 +1,13 @@
 -- `objects::formed`: each object that the loop has passed is formed.
+use mathlib.Core.Path.{refl}
 use Prim.Native.Nat.{ℕ, _-_, _≤_, _<_}
 use native.Mathlib.Omega.{arith}
 use mathlib.Core.Logic.{Iff·trans}
 use borrow.Author.Count.{below-none, below-more}
 use borrow.Author.Needs.{needs}
 use borrow.Author.Tests.{not-true, not-false}
+use Rattle.operations.specs.Laws.Cases.{yes, no, denied}
 use Rattle.objects.specs.Objects.{Formed}
-use Rattle.objects.specs.Laws.Tests.{answer-yes, answer-no, refused}
 use Rattle.objects.specs.Laws.Rows.{all-formed}
 use Rattle.objects.proofs.formed.Statement.{statement}
 use Rattle.objects.proofs.formed.Tie as tie
@@ -26,14 +27,14 @@ is-formed-requires c κs = (c .before .before .before .pre .0, c .loop-test .tak
 returns : tie.Need-returns Inv-loop μ-loop
 returns c =
     let start = c .before .before .before .before .before in
-    Iff·trans (answer-no (λ all. refused (c .before .is-formed .ensures) (not-true _ (c .if1 .taken)) (all _ (c .before .before .loop-test .taken))))
+    Iff·trans (no refl (λ all. denied (c .before .is-formed .ensures) (not-true _ (c .if1 .taken)) (all _ (c .before .before .loop-test .taken))))
     (all-formed (start .args .book .now))
 
 loop-again : tie.Need-loop-again Inv-loop μ-loop
 loop-again c = (search needs, below-more _ _ (c .before .before .before .loop .inv .1) (c .before .is-formed .ensures .0 (not-false _ (c .if1 .left))))
 
 returns-2 : tie.Need-returns-2 Inv-loop μ-loop
-returns-2 c = Iff·trans (answer-yes (λ o l. c .before .loop .inv .1 o (omega arith))) (all-formed (c .before .before .before .args .book .now))
+returns-2 c = Iff·trans (yes refl (λ o l. c .before .loop .inv .1 o (omega arith))) (all-formed (c .before .before .before .args .book .now))
 
 pub formed-spec : {M : Type 1} → statement M
 formed-spec =

@@ -1,9 +1,11 @@
 -- `objects::is_formed`: each arm is the form of its kind.
+use mathlib.Core.Path.{refl}
 use Prim.Native.Nat.{ℕ}
 use mathlib.Core.Logic.{Iff·trans}
 use mathlib.Core.List.{List}
 use borrow.Author.Needs.{needs}
-use Rattle.objects.specs.Laws.Tests.{answer-yes, answer-first, answer-second}
+use Rattle.operations.specs.Laws.Cases.{yes}
+use Rattle.objects.specs.Laws.Tests.{answer-first, answer-second}
 use Rattle.objects.specs.Laws.Rows.{as-stack, as-set, as-table, as-none}
 use Rattle.objects.proofs.is_formed.Statement.{statement}
 use Rattle.objects.proofs.is_formed.Tie as tie
@@ -41,7 +43,7 @@ returns-5 : tie.Need-returns-5
 returns-5 c =
     let k = c .before in
     let rest = c .match .rest in
-    answer-yes (as-none (book k) (object k) _ (k .object-kind .ensures) (k .before .before .pre .2) (rest .0 .0 .1) (rest .0 .1) (rest .1))
+    yes refl (as-none (book k) (object k) _ (k .object-kind .ensures) (k .before .before .pre .2) (rest .0 .0 .1) (rest .0 .1) (rest .1))
 
 pub is-formed-spec : {M : Type 1} → statement M
 is-formed-spec =

@@ -1,10 +1,11 @@
 -- `objects::is_packed`: in range, the words past the rows decide.
+use mathlib.Core.Path.{refl}
 use mathlib.Core.Logic.{Iff·trans}
 use native.Mathlib.Omega.{arith}
 use borrow.Author.Needs.{needs}
 use borrow.Author.Tests.{not-true, not-false}
+use Rattle.operations.specs.Laws.Cases.{no, denied}
 use Rattle.objects.specs.Objects.{InRange}
-use Rattle.objects.specs.Laws.Tests.{answer-no, refused}
 use Rattle.objects.specs.Laws.Ranges.{packed-range, packed-zeros}
 use Rattle.objects.proofs.is_packed.Statement.{statement}
 use Rattle.objects.proofs.is_packed.Tie as tie
@@ -15,7 +16,7 @@ ranged c = c .before .is-in-range .ensures .0 (not-false _ (c .if1 .left))
 returns : tie.Need-returns
 returns c =
     let start = c .before .before .before .before .before in
-    answer-no (λ p. refused (c .before .is-in-range .ensures) (not-true _ (c .if1 .taken))
+    no refl (λ p. denied (c .before .is-in-range .ensures) (not-true _ (c .if1 .taken))
     (packed-range (start .args .book .now) (start .args .object) _ _ (c .before .before .before .object-kind .ensures) (c .before .before .row-count .ensures) p))
 
 mul-free : tie.Need-mul-free

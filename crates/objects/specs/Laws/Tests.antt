@@ -1,17 +1,7 @@
--- What an answer says of what was asked.
-use mathlib.Core.Path.{_≡_, refl, sym, _∙_}
-use mathlib.Core.Bool.{Bool, true, false, true≢false, false≢true}
+-- What two tests say together.
+use mathlib.Core.Path.{_≡_, sym, _∙_}
+use mathlib.Core.Bool.{Bool, true, false, true≢false}
 use mathlib.Core.Logic.{_↔_}
-
-module _ {A : Type 0} where
-  pub answer-yes : A → (true ≡ true) ↔ A
-  answer-yes a = (λ e. a, λ b. refl)
-
-  pub answer-no : (A → ⊥) → (false ≡ true) ↔ A
-  answer-no n = (λ e. absurd (false≢true e), λ a. absurd (n a))
-
-  pub refused : {b : Bool} → (b ≡ true) ↔ A → b ≡ false → A → ⊥
-  refused t e a = true≢false (sym (t .1 a) ∙ e)
 
 -- Two tests, the second only where the first says yes.
 module _ {A B : Type 0} {a : Bool} where

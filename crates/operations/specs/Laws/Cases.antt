@@ -1,7 +1,8 @@
--- Case analysis on a test, on two numbers and on a key, and laws of `All`.
+-- Case analysis on a test, on two numbers and on a key; what an answer says; laws of `All`.
 use Prim.Native.Nat.{ℕ}
-use mathlib.Core.Path.{_≡_, refl, sym, subst}
-use mathlib.Core.Bool.{Bool, true, false}
+use mathlib.Core.Path.{_≡_, refl, sym, _∙_, subst}
+use mathlib.Core.Bool.{Bool, true, false, true≢false}
+use mathlib.Core.Logic.{_↔_}
 use mathlib.Core.List.{List, [], _∷_, _++_}
 use borrow.Author.Tests.{eqb-true, eqb-false}
 use lib.Dec.{eqb}
@@ -18,6 +19,17 @@ same j k equal other =
 -- a key is k, or apart from it
 pub by-key : (P : ℕ → Type 0) (j k : ℕ) → P k → ((j ≡ k → ⊥) → P j) → P j
 by-key P j k own other = same j k (λ e. subst P (sym e) own) other
+
+-- A test's answer decides a fact: yes where it holds, no where it fails; and what no says.
+module _ {P : Type 0} {b : Bool} where
+  pub yes : b ≡ true → P → (b ≡ true) ↔ P
+  yes e p = (λ q. p, λ q. e)
+
+  pub no : b ≡ false → (P → ⊥) → (b ≡ true) ↔ P
+  no e refuted = (λ q. absurd (true≢false (sym q ∙ e)), λ p. absurd (refuted p))
+
+  pub denied : (b ≡ true) ↔ P → b ≡ false → P → ⊥
+  denied decided e p = true≢false (sym (decided .1 p) ∙ e)
 
 module _ {A : Type 0} where
   pub all-map : {P Q : A → Type 0} → ((x : A) → P x → Q x) → (l : List A) → All P l → All Q l

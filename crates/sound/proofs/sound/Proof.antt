@@ -18,7 +18,7 @@ is-packed c = c .before .packed .ensures .0 (not-false _ (c .if1 .left))
 
 fit : (c : tie.Else4) →
     let s = decode base (c .before .before .before .before .before .before .before .before .before .before .args .book .now) in
-    EntriesLive base s × EntriesFit base s × KeysReduced base s
+    EntriesLive s × EntriesFit s × KeysReduced base s
 fit c = c .before .fits2 .ensures .0 (not-false _ (c .if4 .left))
 
 abbrev statuses : tie.Else6 → tie.After-statuses
