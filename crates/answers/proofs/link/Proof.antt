@@ -46,7 +46,7 @@ loop-again c =
     let begin = start at-loop in (
       omega (arith, at-loop .loop .inv .0),
       linked-down (begin .args .book .now) (at-loop .loop .i) (at-loop .loop .heads) (at-loop .loop .links) (at-loop .loop .inv .1)
-          (read .before .before .loop-test .taken) (at-loop .loop .inv .0) (begin .pre .0 .entries) (read .wide .result)
+          (omega (arith, read .before .before .loop-test .taken)) (at-loop .loop .inv .0) (begin .pre .0 .entries) (read .wide .result)
           (read .wide .ensures ∙ read .before .entry-object .ensures) (below read),
     )
 
