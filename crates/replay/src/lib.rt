@@ -11,7 +11,7 @@ ghost use Rattle.operations.specs.Stored.{asReply};
 ghost use Rattle.replay.specs.Replay.{nextOf, replyOf, rowOf, rowsOf, Holds, Placed, positionOf, putAt, removedAt};
 
 // The place of the first key that is not below `key`, or the number of rows.
-pub fn position(rows: &[[u32; 2]; 64], count: usize, key: u32) -> usize
+fn position(rows: &[[u32; 2]; 64], count: usize, key: u32) -> usize
     requires { ⌜ count ≤ 64 ⌝ }
     ensures { λ r. ⌜ r ≡ positionOf key (rowsOf (now (rows .entry)) count) ⌝ }
 {

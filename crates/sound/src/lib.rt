@@ -2,10 +2,8 @@
 ghost use mathlib.Core.Path.{_≡_};
 ghost use mathlib.Core.Bool.{true};
 ghost use mathlib.Core.Logic.{_↔_};
-ghost use Prim.Native.Nat.{ℕ};
 ghost use Rattle.store.specs.Layout.{base, Packed};
 ghost use Rattle.store.specs.Soundness.{Sound};
-ghost use lib.ListN.{length};
 
 // Ranges and zeros.
 fn packed(book: &[u32]) -> bool

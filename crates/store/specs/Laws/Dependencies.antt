@@ -2,11 +2,11 @@
 use Prim.Native.Nat.{ℕ}
 use mathlib.Core.Path.{_≡_, refl, sym, _∙_, subst}
 use mathlib.Core.Bool.{Bool, true, false, true≢false}
-use mathlib.Core.Logic.{_⊎_, inl, inr}
+use mathlib.Core.Logic.{inl, inr}
 use mathlib.Core.List.{List, [], _∷_}
 use borrow.Author.Tests.{eqb-true, eqb-false, eq-eqb, ne-eqb}
 use lib.Dec.{eqb}
-use Rattle.operations.specs.Operations.{Kind, Operation, All}
+use Rattle.operations.specs.Operations.{Kind, All}
 use Rattle.operations.specs.PairRules.{commutes}
 use Rattle.operations.specs.Log.{ObjectType, Commuting, PassesBefore}
 use Rattle.operations.specs.Laws.Cases.{split}

@@ -1,8 +1,8 @@
 -- What is read from words, by number.
 use Prim.Native.Nat.{ℕ, _≤_, _<_}
 use mathlib.Core.Path.{_≡_, sym, ap, _∙_}
-use mathlib.Core.Bool.{true, false}
-use mathlib.Core.Option.{none, some, Option·none-ne-some}
+use mathlib.Core.Bool.{false}
+use mathlib.Core.Option.{some, Option·none-ne-some}
 use mathlib.Core.List.{List}
 use borrow.Author.Tests.{ltb-true, ltb-false}
 use lib.Dec.{ltb}
