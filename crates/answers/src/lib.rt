@@ -9,9 +9,6 @@ ghost use Rattle.store.specs.Layout.{word, decode, Packed, base};
 ghost use Rattle.store.specs.Soundness.{EntriesFit, EntriesAnswered, Room};
 ghost use Rattle.answers.specs.Answers.{NextEntry, Links, Linked, rowsNeeded, ObjectAnswered};
 
-// How many rows an object has room for.
-const ROWS: usize = 64;
-
 // Links the log's entries by object, from the last: the first entry of each object, and at each entry the next one of its object.
 // The number of entries stands for no entry.
 fn link(book: &[u32], heads: &mut [usize; 16], links: &mut [usize; 256])
@@ -59,7 +56,7 @@ fn object_answered(book: &[u32], object: usize, first: usize, links: &[usize; 25
     while i < entries {
         let operation = layout::entry_operation(book, i);
         used += rows_needed(operation.number);
-        if used > ROWS {
+        if used > layout::ROWS {
             return false;
         }
         let at = replay::place(&rows, count, operation);

@@ -18,6 +18,12 @@ pub const OBJECTS: usize = 16;
 
 pub const ENTRIES: usize = 256;
 
+// The rows that an object has room for.
+pub const ROWS: usize = 64;
+
+// Reduced keys are below this.
+pub const KEYS: u32 = 16_777_216;
+
 // The log's first word, and the words of an entry.
 pub const LOG: usize = 2145;
 

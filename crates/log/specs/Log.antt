@@ -16,10 +16,6 @@ use Rattle.store.specs.Store.{Logged, Live, objectOf}
 use Rattle.store.specs.Layout.{base, decode, joined, tabulate, word, orPop, entryStart, entryWords, entryAt, AsStored}
 use Rattle.store.specs.Steps.{without}
 
--- Ranges and zeros of the log: the fields `entries`, `asStored` and `unused` of `Packed`.
-abbrev pub LogPacked : List ℕ → Type 0
-LogPacked w = (word w 0 ≤ 256) × ((i : ℕ) → i < word w 0 → AsStored w i) × ((i : ℕ) → entryStart (word w 0) ≤ i → word w i ≡ 0)
-
 -- Number, key and value are what is stored for the operation that they are read as.
 abbrev pub StoredWords : ℕ → ℕ → ℕ → Type 0
 StoredWords number key value =

@@ -12,13 +12,10 @@ ghost use Rattle.bitset.specs.Bitset.{Holds};
 ghost use Rattle.operations.specs.Operations as model;
 ghost use Rattle.operations.specs.Stored.{asReply};
 ghost use Rattle.store.specs.Store.{Live, objectOf};
-ghost use Rattle.store.specs.Layout.{Packed, base, encode, decode, word, entryStart, operationAt, AsStored};
+ghost use Rattle.store.specs.Layout.{Packed, base, encode, decode, word, entryStart, operationAt, AsStored, LogPacked};
 ghost use Rattle.store.specs.Steps.{appended, dropped};
 ghost use Rattle.store.specs.Soundness.{EntriesLive, EntriesFit, KeysReduced};
-ghost use Rattle.log.specs.Log.{LogPacked, StoredWords, kindBy, LiveSet, EntryFits, StoredAs, logged, wordsOf, wordsAt, Gathered};
-
-// Reduced keys are below this.
-const KEYS: u32 = 16_777_216;
+ghost use Rattle.log.specs.Log.{StoredWords, kindBy, LiveSet, EntryFits, StoredAs, logged, wordsOf, wordsAt, Gathered};
 
 // Whether the words are those that are stored for an operation: its number is in range, and an argument that it does not use is 0.
 fn is_stored(operation: Operation) -> bool
@@ -102,7 +99,7 @@ fn is_reduced(book: &[u32], i: usize) -> bool
     ensures { λ r. ⌜ (r ≡ true) ↔ model.StoredKey model.reduceKey (operationAt (now (book .entry)) i) ⌝ }
 {
     let operation = layout::entry_operation(book, i);
-    kind_of(operation.number) == 1 || operation.key < KEYS
+    kind_of(operation.number) == 1 || operation.key < layout::KEYS
 }
 
 fn entry_fits(book: &[u32], live: u64, i: usize) -> bool
@@ -153,7 +150,7 @@ fn put(
 
 // An entry put last.
 pub fn append(book: &mut [u32], transaction: u32, object: u32, operation: Operation, answer: Reply)
-    requires { ⌜ Packed base (now book) × (word (now book) 0 < 256) ⌝ }
+    requires { ⌜ Packed base (now book) × (word (now book) 0 < 256) × ((o : model.Operation) × StoredAs operation o) ⌝ }
     ensures { λ r. ⌜ ((o : model.Operation) → StoredAs operation o → now (book .exit) ≡ encode base (appended (logged transaction object o (asReply answer)) (decode base (now (book .entry))))) ⌝ }
 {
     let count = layout::entry_count(book);

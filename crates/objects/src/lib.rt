@@ -16,9 +16,6 @@ ghost use Rattle.store.specs.Soundness.{RowsFormed};
 ghost use Rattle.store.specs.Steps.{folded};
 ghost use Rattle.objects.specs.Objects.{InRange, Keyed, Formed, wordsOf, rowsIn};
 
-// Keys are reduced to the remainder by this.
-const KEYS: u32 = 16_777_216;
-
 // A kind and a number of rows that an object may have.
 fn is_in_range(kind: u32, count: usize) -> bool
     ensures { λ r. ⌜ (r ≡ true) ↔ InRange kind count ⌝ }
@@ -84,7 +81,7 @@ fn is_keyed(book: &[u32], object: usize) -> bool
     let mut least: u32 = 0;
     for i in 0..count {
         let key = book[rows + 2 * i];
-        if key < least || key >= KEYS {
+        if key < least || key >= layout::KEYS {
             return false;
         }
         least = key + 1;
@@ -157,7 +154,7 @@ fn fold_part(part: &mut [u32], operation: Operation)
 
 // Folds an operation into an object. No word before the object's is lent.
 pub fn fold(book: &mut [u32], object: usize, operation: Operation)
-    requires { ⌜ Packed base (now book) × (object < 16) × (length (nextOf operation (rowsAt (now book) object)) ≤ 64) ⌝ }
+    requires { ⌜ Packed base (now book) × (object < 16) × (length (nextOf operation (rowsAt (now book) object)) ≤ 64) × ((o : model.Operation) × (operationOf operation ≡ some o)) ⌝ }
     ensures { λ r. ⌜ ((o : model.Operation) → operationOf operation ≡ some o → now (book .exit) ≡ encode base (folded object o (decode base (now (book .entry))))) ⌝ }
 {
     let start = layout::FIRST_OBJECT + layout::OBJECT * object;

@@ -10,7 +10,7 @@ ghost use lib.Dec.{eqb};
 ghost use lib.ListN.{length};
 ghost use Rattle.bitset.specs.Bitset.{has, Members, Holds};
 ghost use Rattle.store.specs.Layout.{Packed, base, decode, encode, readStatus, word};
-ghost use Rattle.store.specs.Store.{Live, PseudoCommitted, finishedCount};
+ghost use Rattle.store.specs.Store.{Live, PseudoCommitted, pseudoCommittedCount};
 ghost use Rattle.store.specs.Soundness.{OnceEach, WithoutGaps};
 ghost use Rattle.store.specs.Steps.{withStatus, closedUp};
 ghost use Rattle.statuses.specs.Statuses.{Noted, Downward, loweredWord};
@@ -106,7 +106,7 @@ pub fn statuses(book: &[u32]) -> Summary
 // How many transactions are pseudo-committed: the rank that the next one gets.
 pub fn next_rank(book: &[u32]) -> u32
     requires { ⌜ length (now book) ≡ 3937 ⌝ }
-    ensures { λ r. ⌜ r ≡ finishedCount (decode base (now (book .entry))) ⌝ }
+    ensures { λ r. ⌜ r ≡ pseudoCommittedCount (decode base (now (book .entry))) ⌝ }
 {
     let mut count: u32 = 0;
     let mut transaction: u32 = 0;

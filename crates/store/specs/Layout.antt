@@ -121,12 +121,15 @@ AsStored w i =
     let o = operationAt w i in
     (numberOf o ≡ word w (start + 2)) × (keyOf o ≡ word w (start + 3)) × (valueOf o ≡ word w (start + 4))
 
-pub record Packed (format : Format) (w : List ℕ) : Type 0 where
-  pub words : length w ≡ 3_937
+pub record LogPacked (w : List ℕ) : Type 0 where
   pub entries : word w 0 ≤ 256
-  pub objects : format .ObjectsPacked w
   pub asStored : (i : ℕ) → i < word w 0 → AsStored w i
   pub unused : (i : ℕ) → entryStart (word w 0) ≤ i → word w i ≡ 0
+
+pub record Packed (format : Format) (w : List ℕ) : Type 0 where
+  pub words : length w ≡ 3_937
+  pub objects : format .ObjectsPacked w
+  pub log : LogPacked w
 
 -- A store that fits into a book, the size of its numbers apart.
 pub record Representable (format : Format) (s : Store) : Type 0 where

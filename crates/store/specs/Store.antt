@@ -39,7 +39,7 @@ statusOf s t = getD (s .statuses) t absent
 abbrev pub objectOf : Store → ℕ → Object
 objectOf s o = getD (s .objects) o noObject
 
--- Open or finished.
+-- Active or pseudo-committed.
 abbrev pub Live : Store → ℕ → Type 0
 Live s t = statusOf s t ≡ absent → ⊥
 
@@ -49,15 +49,15 @@ Active s t = statusOf s t ≡ active
 abbrev pub PseudoCommitted : Store → ℕ → Type 0
 PseudoCommitted s t = (rank : ℕ) × (statusOf s t ≡ pseudoCommitted rank)
 
-abbrev pub finishedIn : List Status → ℕ
-finishedIn [] = 0
-finishedIn (absent ∷ l) = finishedIn l
-finishedIn (active ∷ l) = finishedIn l
-finishedIn (pseudoCommitted rank ∷ l) = suc (finishedIn l)
+abbrev pub pseudoCommittedIn : List Status → ℕ
+pseudoCommittedIn [] = 0
+pseudoCommittedIn (absent ∷ l) = pseudoCommittedIn l
+pseudoCommittedIn (active ∷ l) = pseudoCommittedIn l
+pseudoCommittedIn (pseudoCommitted rank ∷ l) = suc (pseudoCommittedIn l)
 
 -- How many are pseudo-committed (finished).
-abbrev pub finishedCount : Store → ℕ
-finishedCount s = finishedIn (s .statuses)
+abbrev pub pseudoCommittedCount : Store → ℕ
+pseudoCommittedCount s = pseudoCommittedIn (s .statuses)
 
 -- The entries of one object, in order.
 abbrev pub onObject : ℕ → List Logged → List (Entry Operation Reply)

@@ -27,7 +27,7 @@ loop-holds c =
     (omega (arith, c .entry-count .ensures), rw (c .entry-count .ensures) (begin .pre .2))
 
 inside : (c : tie.In-loop Inv-loop μ-loop) → c .before .loop .i - 1 < 256
-inside c = omega (arith, start (c .before) .pre .0 .entries, c .before .loop .inv .0, c .loop-test .taken)
+inside c = omega (arith, start (c .before) .pre .0 .log .entries, c .before .loop .inv .0, c .loop-test .taken)
 
 entry-object-requires : tie.Need-entry-object-requires Inv-loop μ-loop
 entry-object-requires c κs = (start (c .before) .pre .0 .words, inside c)
@@ -46,7 +46,7 @@ loop-again c =
     let begin = start at-loop in (
       omega (arith, at-loop .loop .inv .0),
       linked-down (begin .args .book .now) (at-loop .loop .i) (at-loop .loop .heads) (at-loop .loop .links) (at-loop .loop .inv .1)
-          (omega (arith, read .before .before .loop-test .taken)) (at-loop .loop .inv .0) (begin .pre .0 .entries) (read .wide .result)
+          (omega (arith, read .before .before .loop-test .taken)) (at-loop .loop .inv .0) (begin .pre .0 .log .entries) (read .wide .result)
           (read .wide .ensures ∙ read .before .entry-object .ensures) (below read),
     )
 

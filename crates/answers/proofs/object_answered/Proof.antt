@@ -50,7 +50,7 @@ inside : (c : tie.In-loop Inv-loop μ-loop) → c .before .loop .i < word (begin
 inside c = omega (arith, c .loop-test .taken, c .before .before .before .before .before .entry-count .ensures)
 
 readable : (c : tie.In-loop Inv-loop μ-loop) → (length (begin (c .before) .args .book .now) ≡ 3937) × (c .before .loop .i < 256)
-readable c = (packed (c .before) .words, omega (arith, inside c, packed (c .before) .entries))
+readable c = (packed (c .before) .words, omega (arith, inside c, packed (c .before) .log .entries))
 
 reached : (c : tie.After-rows-needed Inv-loop μ-loop) → let at-loop = c .before .before .before in
     Reached (begin at-loop .args .book .now) (begin at-loop .args .object) (at-loop .loop .i) (at-loop .loop .rows) (at-loop .loop .count) (at-loop .loop .used) (c .before .entry-operation .result) (c .rows-needed .result)

@@ -121,10 +121,10 @@ failed Q test tested f whole = refuted Q (λ q. true≢false (sym (tested .1 (wh
 
 module _ {w : List ℕ} {o i : ℕ} {rows : List (List ℕ)} {count used : ℕ} {operation : Operation} {n : ℕ} (at : Reached w o i rows count used operation n) where
   named : operationOf operation ≡ some (operationAt w i)
-  named = read w i operation (at .packed .asStored i (at .inside)) (at .words .0) (at .words .1) (at .words .2)
+  named = read w i operation (at .packed .log .asStored i (at .inside)) (at .words .0) (at .words .1) (at .words .2)
 
   needs-rows : n ≡ cond (adds (operationAt w i)) 1 0
-  needs-rows = at .needs ∙ ap rowsNeeded (at .words .0 ∙ sym (at .packed .asStored i (at .inside) .0)) ∙ needed (operationAt w i)
+  needs-rows = at .needs ∙ ap rowsNeeded (at .words .0 ∙ sym (at .packed .log .asStored i (at .inside) .0)) ∙ needed (operationAt w i)
 
   here : Replayed used (entryAt w i .entry ∷ entriesFrom w o (i + 1)) (rowsOf rows count) ↔ ObjectAnswered w o
   here = rw (entries-own w o i (at .inside) (at .state .own (at .inside))) at (at .state .left)

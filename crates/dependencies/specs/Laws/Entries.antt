@@ -90,8 +90,8 @@ module _ (w : List ℕ) where
     readable packed =
         record {
           words = packed .words;
-          entries = packed .entries;
-          stored = packed .asStored;
+          entries = packed .log .entries;
+          stored = packed .log .asStored;
           transactions = λ i l.
               live-below base w (transactionAt w i) (all-each (λ (e : Logged). Live (decode base w) (e .entry .transaction)) (word w 0) (entryAt w) live i l);
           objects = λ i l. kind-below base w (objectAt w i) (kindOf (operationAt w i)) (of-kind i l);

@@ -25,7 +25,7 @@ loop-again c =
     let in-loop = read .before .before in
     let at-loop = in-loop .before in
     let start = at-loop .before .before .before .before in
-    let stored = start .pre .asStored (at-loop .loop .i) (omega (arith, at-loop .before .entry-count .ensures, in-loop .loop-test .taken)) in (
+    let stored = start .pre .log .asStored (at-loop .loop .i) (omega (arith, at-loop .before .entry-count .ensures, in-loop .loop-test .taken)) in (
       omega arith,
       ⊎-elim
           (λ w. rw (w .5, w .6) (gathered-kept _ _ _ _ _ (at-loop .loop .inv .1) _ _ stored (read .entry-transaction .ensures) (w .0 .taken) (w .2 .ensures)))

@@ -98,7 +98,7 @@ module _ (w : List ℕ) (i : ℕ) where
 
   module _ (packed : Packed base w) (l : i < word w 0) (n kind : ℕ) (number : n ≡ word w (entryStart i + 2)) (by : kind ≡ kindBy n) where
     kind-stored : kind ≡ kindWord (some (kindOf (operationAt w i)))
-    kind-stored = by ∙ ap kindBy (number ∙ sym (packed .asStored i l .0)) ∙ kind-by (operationAt w i)
+    kind-stored = by ∙ ap kindBy (number ∙ sym (packed .log .asStored i l .0)) ∙ kind-by (operationAt w i)
 
     pub kind-tested : (o x : ℕ) → o ≡ word w (entryStart i + 1) → o < 16 → x ≡ word w (objectStart o) → (eqb x kind ≡ true) ↔ OfKind
     kind-tested o x e m r =
@@ -111,7 +111,7 @@ module _ (w : List ℕ) (i : ℕ) where
     pub key-tested : (k : ℕ) → k ≡ word w (entryStart i + 3) → (kind ≡ 1 → ⊥) → (ltb k 16_777_216 ≡ true) ↔ KeyReduced
     key-tested k e other =
         let o = operationAt w i in
-        let same : k ≡ keyOf o = e ∙ sym (packed .asStored i l .1) in (
+        let same : k ≡ keyOf o = e ∙ sym (packed .log .asStored i l .1) in (
           λ q. stored-key o .0 (inr (rw same at (ltb-true k 16_777_216 q))),
           λ s. ⊎-elim (λ q. absurd (other (kind-stored ∙ q))) (λ m. lt-ltb k 16_777_216 (rw same m)) (stored-key o .1 s),
         )

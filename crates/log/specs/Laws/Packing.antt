@@ -13,8 +13,8 @@ use lib.ListN.{length, take, drop, List·getD-eq-default}
 use lib.Seq.{getD-drop}
 use Rattle.operations.specs.Operations.{numbered, stored, numberOf}
 use Rattle.operations.specs.Laws.Cases.{same, no, denied}
-use Rattle.store.specs.Layout.{word, orPop, entryStart, AsStored}
-use Rattle.log.specs.Log.{LogPacked, StoredWords}
+use Rattle.store.specs.Layout.{word, orPop, entryStart, AsStored, LogPacked}
+use Rattle.log.specs.Log.{StoredWords}
 use Rattle.log.specs.Laws.Checks.{Each}
 
 -- ---- One operation
@@ -90,10 +90,10 @@ stored-read B w i n k v h (en, ek, ev) = rw (en, ek, ev) at h
 
 module _ (w : List ℕ) (n : ℕ) (counted : n ≡ word w 0) where
   pub too-many : 256 < n → (false ≡ true) ↔ LogPacked w
-  too-many l = no refl (λ p. omega (arith, p .0))
+  too-many l = no refl (λ p. omega (arith, p .entries))
 
   pub not-stored : (b : Bool) → b ≡ false → (b ≡ true) ↔ Each (AsStored w) n → (false ≡ true) ↔ LogPacked w
-  not-stored b e h = no refl (λ p. denied h e (rw counted (p .1)))
+  not-stored b e h = no refl (λ p. denied h e (rw counted (p .asStored)))
 
   -- The words from place a on, as a part of w that is lent.
   abbrev pub from : ℕ → List ℕ
@@ -109,6 +109,6 @@ module _ (w : List ℕ) (n : ℕ) (counted : n ≡ word w 0) where
 
   pub then-zeros : (b : Bool) → n ≤ 256 → Each (AsStored w) n → (b ≡ true) ↔ ((i : ℕ) → word (from (entryStart n)) i ≡ 0) → (b ≡ true) ↔ LogPacked w
   then-zeros b l stored zeros = (
-    λ e. (rw counted at l, rw counted at stored, λ i m. unused (zeros .0 e) i (omega arith)),
-    λ p. zeros .1 (λ i. from-at (entryStart n) i ∙ p .2 (entryStart n + i) (omega arith)),
+    λ e. record { entries = rw counted at l; asStored = rw counted at stored; unused = λ i m. unused (zeros .0 e) i (omega arith) },
+    λ p. zeros .1 (λ i. from-at (entryStart n) i ∙ p .unused (entryStart n + i) (omega arith)),
   )

@@ -39,7 +39,7 @@ module _ (w : List ℕ) (packed : Packed base w) where
 
   front-size : length front ≡ 2_144
   front-size =
-      let fits : length (joined entryWords log) ≤ 1_792 = omega (arith, log-size log, counted, packed .entries) in
+      let fits : length (joined entryWords log) ≤ 1_792 = omega (arith, log-size log, counted, packed .log .entries) in
       omega (arith, packed .words, ap length parts, length-append front (padded 1_792 (joined entryWords log)), padded-length 1_792 (joined entryWords log) fits)
 
   -- An entry put last.
@@ -81,6 +81,6 @@ module _ (w : List ℕ) (packed : Packed base w) where
       ∙ ap (λ (m : ℕ). sets (sets w 2_145 ws) m (zeros (length j - length ws))) start
       ∙ sets-append w 2_145 ws (zeros (length j - length ws))
       ∙ ap₂ (λ (b : List ℕ) (m : ℕ). sets b m (ws ++ zeros (length j - length ws))) parts place
-      ∙ padded-over 1_792 p j ws (omega (arith, g .few)) (omega (arith, packed .entries))
+      ∙ padded-over 1_792 p j ws (omega (arith, g .few)) (omega (arith, packed .log .entries))
       in
       ap₂ (λ (b : List ℕ) (m : ℕ). set b 0 m) whole (g .count) ∙ sym (written (others w t (word w 0)))

@@ -17,12 +17,10 @@ log c =
     last (c .packed2 .ensures)
     (λ l. record {
       words = c .before .before .before .if1 .left;
-      entries = l .0;
       objects = c .before .before .packed .ensures .0 (not-false _ (c .before .if2 .left));
-      asStored = l .1;
-      unused = l .2;
+      log = l;
     })
-    (λ (p : Packed base _). (p .entries, p .asStored, p .unused))
+    (λ (p : Packed base _). p .log)
 
 pub packed-spec : {M : Type 1} → statement M
 packed-spec = tie.close (tie.spec returns (λ c κs. search needs) objects (λ c κs. search needs) log)

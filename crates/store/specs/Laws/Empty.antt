@@ -59,10 +59,12 @@ module _ (w : List ℕ) (zeros : (i : ℕ) → word w i ≡ 0) where
   zeros-packed format size objects =
       record {
         words = size;
-        entries = omega (arith, zeros 0);
         objects = objects;
-        asStored = λ i l. absurd (not-suc-le-zero (rw (zeros 0) at l));
-        unused = λ i l. zeros i;
+        log = record {
+          entries = omega (arith, zeros 0);
+          asStored = λ i l. absurd (not-suc-le-zero (rw (zeros 0) at l));
+          unused = λ i l. zeros i;
+        };
       }
 
   -- ---- The base

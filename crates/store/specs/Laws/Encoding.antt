@@ -166,12 +166,14 @@ module _ (format : Format) (laid : ObjectsLaid format) where
         let w = encode format s in
         record {
           words = encoded-size;
-          entries = omega (arith, first-word, r .entries);
           objects = laid .packed w (s .objects) (r .objects) (r .fit) object-word;
-          asStored = λ i l. entry-stored w i (getD (s .log) i noEntry) (log-entry i (rw first-word at l));
-          unused = λ i l.
-              let e : i ≡ 2_145 + (i - 2_145) = omega arith in
-              ap (word w) e ∙ log-word (i - 2_145) ∙ padded-past 1_792 (joined entryWords (s .log)) (i - 2_145) (omega (arith, first-word, log-size));
+          log = record {
+            entries = omega (arith, first-word, r .entries);
+            asStored = λ i l. entry-stored w i (getD (s .log) i noEntry) (log-entry i (rw first-word at l));
+            unused = λ i l.
+                let e : i ≡ 2_145 + (i - 2_145) = omega arith in
+                ap (word w) e ∙ log-word (i - 2_145) ∙ padded-past 1_792 (joined entryWords (s .log)) (i - 2_145) (omega (arith, first-word, log-size));
+          };
         }
 
   -- ---- A packed book: the store that is read from it, and its words
@@ -183,13 +185,13 @@ module _ (format : Format) (laid : ObjectsLaid format) where
           statuses = length-tabulate 64 (statusAt w);
           objects = length-tabulate 16 (format .objectAt w);
           fit = laid .fit w (packed .objects);
-          entries = omega (arith, length-tabulate (word w 0) (entryAt w), packed .entries);
+          entries = omega (arith, length-tabulate (word w 0) (entryAt w), packed .log .entries);
         }
 
     log-written : (p : ℕ) → p < 1_792 → word (padded 1_792 (joined entryWords (tabulate (word w 0) (entryAt w)))) p ≡ word w (2_145 + p)
     log-written =
         padded-same entryWords 7 1_792 (word w 0) (entryAt w) (λ (p : ℕ). word w (2_145 + p)) (λ i l. refl)
-        (λ i j l. entry-written w i (packed .asStored i l) j) (λ p l m. packed .unused (2_145 + p) (omega arith))
+        (λ i j l. entry-written w i (packed .log .asStored i l) j) (λ p l m. packed .log .unused (2_145 + p) (omega arith))
 
     pub encoded-decoded : encode format (decode format w) ≡ w
     encoded-decoded =
