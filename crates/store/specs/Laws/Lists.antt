@@ -15,10 +15,6 @@ module _ {A : Type 0} where
   unfolding tabulate
   tabulate-zero f = refl
 
-  pub tabulate-cons : (n : ℕ) (f : ℕ → A) → tabulate (suc n) f ≡ f 0 ∷ tabulate n (λ i. f (suc i))
-  unfolding tabulate
-  tabulate-cons n f = refl
-
   pub length-tabulate : (n : ℕ) (f : ℕ → A) → length (tabulate n f) ≡ n
   unfolding tabulate
   length-tabulate zero f = refl
