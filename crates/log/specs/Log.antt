@@ -1,5 +1,5 @@
 -- What the functions of the log say of the book's words.
-use Prim.Native.Nat.{ℕ, _+_, _≤_, _<_}
+use Prim.Native.Nat.{ℕ, _+_, _≤_}
 use mathlib.Core.Path.{_≡_}
 use mathlib.Core.Bool.{true, cond}
 use mathlib.Core.Logic.{_↔_}
@@ -13,7 +13,7 @@ use Rattle.operations.specs.Operations as model
 use Rattle.operations.specs.declared.Operation.{Operation}
 use Rattle.operations.specs.declared.Reply.{Reply}
 use Rattle.store.specs.Store.{Logged, Live, objectOf}
-use Rattle.store.specs.Layout.{base, decode, joined, tabulate, word, orPop, entryStart, entryWords, entryAt, AsStored}
+use Rattle.store.specs.Layout.{base, decode, joined, tabulate, word, orPop, entryStart, entryWords, entryAt}
 use Rattle.store.specs.Steps.{without}
 
 -- Number, key and value are what is stored for the operation that they are read as.
