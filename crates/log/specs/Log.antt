@@ -1,14 +1,12 @@
 -- What the functions of the log say of the book's words.
 use Prim.Native.Nat.{ℕ, _+_, _≤_}
 use mathlib.Core.Path.{_≡_}
-use mathlib.Core.Bool.{true, cond}
-use mathlib.Core.Logic.{_↔_}
+use mathlib.Core.Bool.{cond}
 use mathlib.Core.Option.{some}
 use mathlib.Core.List.{List, [], _∷_}
 use lib.Dec.{ltb}
 use lib.ListN.{length}
 use lib.Seq.{sets}
-use Rattle.bitset.specs.Bitset.{has}
 use Rattle.operations.specs.Operations as model
 use Rattle.operations.specs.declared.Operation.{Operation}
 use Rattle.operations.specs.declared.Reply.{Reply}
@@ -25,10 +23,6 @@ StoredWords number key value =
 -- The kind's word, by an operation's number.
 abbrev pub kindBy : ℕ → ℕ
 kindBy number = cond (ltb number 4) 1 (cond (ltb number 7) 2 3)
-
--- The set of the live transactions.
-abbrev pub LiveSet : ℕ → List ℕ → Type 0
-LiveSet live w = (t : ℕ) → (has live t ≡ true) ↔ Live (decode base w) t
 
 -- Entry i belongs to a live transaction, fits its object's kind, and its key is reduced.
 abbrev pub EntryFits : List ℕ → ℕ → Type 0

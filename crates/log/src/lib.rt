@@ -15,7 +15,7 @@ ghost use Rattle.store.specs.Store.{Live, objectOf};
 ghost use Rattle.store.specs.Layout.{Packed, base, encode, decode, word, entryStart, operationAt, AsStored, LogPacked};
 ghost use Rattle.store.specs.Steps.{appended, dropped};
 ghost use Rattle.store.specs.Soundness.{EntriesLive, EntriesFit, KeysReduced};
-ghost use Rattle.log.specs.Log.{StoredWords, kindBy, LiveSet, EntryFits, StoredAs, logged, wordsOf, wordsAt, Gathered};
+ghost use Rattle.log.specs.Log.{StoredWords, kindBy, EntryFits, StoredAs, logged, wordsOf, wordsAt, Gathered};
 
 // Whether the words are those that are stored for an operation: its number is in range, and an argument that it does not use is 0.
 fn is_stored(operation: Operation) -> bool
@@ -72,7 +72,7 @@ fn kind_of(number: u32) -> u32
 }
 
 fn is_live(book: &[u32], live: u64, i: usize) -> bool
-    requires { ⌜ (length (now book) ≡ 3937) × (i < 256) × LiveSet live (now book) ⌝ }
+    requires { ⌜ (length (now book) ≡ 3937) × (i < 256) × Holds live (Live (decode base (now book))) ⌝ }
     ensures { λ r. ⌜ (r ≡ true) ↔ Live (decode base (now (book .entry))) (word (now (book .entry)) (entryStart i)) ⌝ }
 {
     let transaction = layout::entry_transaction(book, i);
@@ -103,7 +103,7 @@ fn is_reduced(book: &[u32], i: usize) -> bool
 }
 
 fn entry_fits(book: &[u32], live: u64, i: usize) -> bool
-    requires { ⌜ Packed base (now book) × (i < word (now book) 0) × LiveSet live (now book) ⌝ }
+    requires { ⌜ Packed base (now book) × (i < word (now book) 0) × Holds live (Live (decode base (now book))) ⌝ }
     ensures { λ r. ⌜ (r ≡ true) ↔ EntryFits (now (book .entry)) i ⌝ }
 {
     if !is_live(book, live, i) {

@@ -9,14 +9,15 @@ use native.Mathlib.Omega.{arith}
 use borrow.Author.Tests.{eqb-true, eq-eqb, ltb-true, lt-ltb, le-ltb}
 use lib.Dec.{eqb, ltb}
 use Rattle.operations.specs.Laws.Cases.{yes, no}
-use Rattle.bitset.specs.Bitset.{has}
-use Rattle.operations.specs.Operations.{Kind, Stack, Set, Table, push, pop, top, setInsert, setDelete, member, tableInsert, tableDelete, lookup, size, modify, Operation, onStack, onSet, onTable, kindOf, numberOf, keyOf, reduceKey, Reduced, StoredKey}
+use Rattle.bitset.specs.Bitset.{has, Holds}
+use Rattle.operations.specs.Operations.{Kind, Stack, Set, Table, push, pop, top, setInsert, setDelete, member, tableInsert, tableDelete, lookup, size, modify, Operation, onStack, onSet, onTable, kindOf, numberOf, keyOf, reduceKey, StoredKey}
+use Rattle.operations.specs.Laws.Storing.{reduced-below}
 use Rattle.store.specs.Store.{Object, Live, objectOf, Logged}
 use Rattle.store.specs.Layout.{base, decode, word, kindWord, readKind, objectStart, entryStart, entryAt, operationAt, Packed}
 use Rattle.store.specs.Soundness.{EntriesLive, EntriesFit, KeysReduced}
 use Rattle.store.specs.Laws.Lists.{all-each, all-of}
 use Rattle.store.specs.Laws.Reading.{live-below, object-read, kind-below}
-use Rattle.log.specs.Log.{kindBy, LiveSet, EntryFits}
+use Rattle.log.specs.Log.{kindBy, EntryFits}
 use Rattle.log.specs.Laws.Checks.{Each}
 
 -- ---- Kinds
@@ -65,14 +66,10 @@ object-kind w o k = (
 
 -- ---- Keys
 
-reduced : (k : ℕ) → (k < 16_777_216) ↔ Reduced reduceKey k
-unfolding reduceKey
-reduced k = (λ l. omega arith, λ e. omega arith)
-
 stored-key : (o : Operation) → ((kindWord (some (kindOf o)) ≡ 1) ⊎ (keyOf o < 16_777_216)) ↔ StoredKey reduceKey o
 stored-key (onStack o) = (λ p. tt, λ s. inl refl)
-stored-key (onSet o) = (⊎-elim (λ e. absurd (omega arith)) (λ l. reduced _ .0 l), λ s. inr (reduced _ .1 s))
-stored-key (onTable o) = (⊎-elim (λ e. absurd (omega arith)) (λ l. reduced _ .0 l), λ s. inr (reduced _ .1 s))
+stored-key (onSet o) = (⊎-elim (λ e. absurd (omega arith)) (λ l. reduced-below _ .0 l), λ s. inr (reduced-below _ .1 s))
+stored-key (onTable o) = (⊎-elim (λ e. absurd (omega arith)) (λ l. reduced-below _ .0 l), λ s. inr (reduced-below _ .1 s))
 
 -- ---- One entry
 
@@ -89,7 +86,7 @@ module _ (w : List ℕ) (i : ℕ) where
   pub live-past : (t : ℕ) → t ≡ word w (entryStart i) → 64 ≤ t → (false ≡ true) ↔ EntryLive
   live-past t e l = no refl (λ live. omega (arith, live-below base w (word w (entryStart i)) live))
 
-  pub live-tested : (live t : ℕ) (b : Bool) → t ≡ word w (entryStart i) → LiveSet live w → b ≡ has live t
+  pub live-tested : (live t : ℕ) (b : Bool) → t ≡ word w (entryStart i) → Holds live (Live (decode base w)) → b ≡ has live t
       → (b ≡ true) ↔ EntryLive
   live-tested live t b e lives r = rw (r, ← e) (lives t)
 

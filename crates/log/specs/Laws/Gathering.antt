@@ -2,7 +2,7 @@
 use Prim.Native.Nat.{ℕ, _+_, _*_, _≤_}
 use mathlib.Core.Path.{_≡_, refl, sym, ap, ap₂, _∙_}
 use mathlib.Core.Bool.{true, false}
-use mathlib.Core.List.{List, [], _∷_, _++_, append-assoc, append-nil}
+use mathlib.Core.List.{List, [], _∷_, _++_, append-nil}
 use native.Mathlib.Numerals.{add-one}
 use native.Mathlib.Omega.{arith}
 use borrow.Author.Tests.{eq-eqb, ne-eqb}
@@ -18,7 +18,7 @@ use Rattle.store.specs.Store.{Logged}
 use Rattle.store.specs.Layout.{joined, tabulate, word, entryStart, entryWords, entryAt, AsStored}
 use Rattle.store.specs.Steps.{without}
 use Rattle.store.specs.Laws.Lists.{tabulate-zero, tabulate-snoc}
-use Rattle.store.specs.Laws.Words.{all-any, joined-length}
+use Rattle.store.specs.Laws.Words.{all-any, joined-length, joined-append}
 use Rattle.log.specs.Log.{StoredAs, logged, wordsOf, wordsAt, others, Gathered}
 use Rattle.log.specs.Laws.Sets.{sets-append, sets-past}
 
@@ -40,10 +40,6 @@ words-at w i (n, k, v) = rw (n, k, v)
 
 pub log-size : (log : List Logged) → length (joined entryWords log) ≡ 7 * length log
 log-size log = joined-length entryWords 7 log (all-any (λ (l : Logged). length (entryWords l) ≡ 7) (λ l. refl) log)
-
-pub joined-append : (xs ys : List Logged) → joined entryWords (xs ++ ys) ≡ joined entryWords xs ++ joined entryWords ys
-joined-append [] ys = refl
-joined-append (x ∷ xs) ys = ap (λ (l : List ℕ). entryWords x ++ l) (joined-append xs ys) ∙ sym (append-assoc (entryWords x) (joined entryWords xs) (joined entryWords ys))
 
 -- ---- Entries of other transactions, moved to the front one after the other
 
@@ -108,6 +104,6 @@ module _ (w : List ℕ) (t : ℕ) where
               r ∙ ap₂ (λ (b ws : List ℕ). sets b (entryStart kept) ws) (g .words) words
               ∙ ap (λ (n : ℕ). sets (sets w 2_145 before) n (entryWords (entryAt w i))) place
               ∙ sets-append w 2_145 before (entryWords (entryAt w i))
-              ∙ ap (sets w 2_145) (sym (joined-append (others w t i) (entryAt w i ∷ [])))
+              ∙ ap (sets w 2_145) (sym (joined-append entryWords (others w t i) (entryAt w i ∷ [])))
               ∙ sym (ap (λ (l : List Logged). sets w 2_145 (joined entryWords l)) more);
         }

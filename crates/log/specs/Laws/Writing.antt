@@ -10,10 +10,10 @@ use Rattle.store.specs.Layout.{base, encode, decode, joined, padded, word, stat
 use Rattle.store.specs.Steps.{appended, dropped}
 use Rattle.store.specs.Theorems.{encoded}
 use Rattle.store.specs.Laws.Lists.{length-tabulate}
-use Rattle.store.specs.Laws.Words.{padded-length}
+use Rattle.store.specs.Laws.Words.{padded-length, joined-append}
 use Rattle.log.specs.Log.{others, Gathered}
 use Rattle.log.specs.Laws.Sets.{zeros, Cleared, sets-append, sets-before, padded-more, padded-over}
-use Rattle.log.specs.Laws.Gathering.{log-size, joined-append}
+use Rattle.log.specs.Laws.Gathering.{log-size}
 
 pub count-kept : (w next : List ℕ) (i : ℕ) (ws : List ℕ) → next ≡ sets w (entryStart i) ws → word next 0 ≡ word w 0
 count-kept w next i ws e = ap (λ (b : List ℕ). word b 0) e ∙ sets-before w (entryStart i) ws 0 (omega arith)
@@ -51,7 +51,7 @@ module _ (w : List ℕ) (packed : Packed base w) where
       let place : entryStart n ≡ length p + length j = omega (arith, front-size, log-size log, counted) in
       let fits : length j + length ws ≤ 1_792 = omega (arith, log-size log, counted, ap length e) in
       let words : j ++ ws ≡ joined entryWords (log ++ (l ∷ [])) =
-      ap (λ (v : List ℕ). j ++ v) e ∙ sym (joined-append log (l ∷ []))
+      ap (λ (v : List ℕ). j ++ v) e ∙ sym (joined-append entryWords log (l ∷ []))
       in
       let count : word next 0 + 1 ≡ length (log ++ (l ∷ [])) = omega (arith, counted, count-kept w next n ws put, length-append log (l ∷ [])) in
       let whole : next ≡ p ++ padded 1_792 (j ++ ws) =

@@ -8,8 +8,9 @@ use native.Mathlib.Numerals.{add-one}
 use native.Mathlib.Omega.{arith}
 use lib.ListN.{drop, drop-of-length-le}
 use lib.Seq.{drop-cons}
-use Rattle.operations.specs.Operations.{Kind, Stack, Set, Table, Row, reduceKey, All, NoValue, Reduced, WellFormed}
+use Rattle.operations.specs.Operations.{Kind, Stack, Set, Table, Row, reduceKey, All, NoValue, WellFormed}
 use Rattle.operations.specs.Laws.Cases.{all-map}
+use Rattle.operations.specs.Laws.Storing.{reduced-below}
 use Rattle.store.specs.Store.{Object}
 use Rattle.store.specs.Layout.{word, tabulate, base, decode, readKind, objectStart, rowsAt, ObjectPacked}
 use Rattle.store.specs.Soundness.{RowsFormed}
@@ -19,14 +20,6 @@ use Rattle.store.specs.Laws.Reading.{object-read, kind-below}
 use Rattle.objects.specs.Objects.{Keyed, Formed}
 
 -- ---- Neighbours
-
-below-reduced : (k : ℕ) → k < 16_777_216 → Reduced reduceKey k
-unfolding reduceKey
-below-reduced k l = omega arith
-
-reduced-below : (k : ℕ) → Reduced reduceKey k → k < 16_777_216
-unfolding reduceKey
-reduced-below k r = omega arith
 
 -- Keys from a least one on: each is reduced, and at least one more than the key before it.
 abbrev Rising : ℕ → List Row → Type 0
@@ -49,13 +42,13 @@ rising-keyed least [] p = (tt, tt)
 rising-keyed least (r ∷ rs) p =
     let rest = rising-keyed (r .key + 1) rs (p .2) in
     let above = all-map {P = AtLeast (r .key + 1)} {Q = Above (r .key)} (λ q h. omega arith) rs (rising-least (r .key + 1) rs (p .2)) in
-    ((below-reduced (r .key) (p .1), rest .0), (above, rest .1))
+    ((reduced-below (r .key) .0 (p .1), rest .0), (above, rest .1))
 
 keyed-rising : (least : ℕ) (rs : List Row) → All (AtLeast least) rs → Keyed rs → Rising least rs
 keyed-rising least [] a k = tt
 keyed-rising least (r ∷ rs) a k =
     let above = all-map {P = Above (r .key)} {Q = AtLeast (r .key + 1)} (λ q h. omega arith) rs (k .1 .0) in
-    (a .0, reduced-below (r .key) (k .0 .0), keyed-rising (r .key + 1) rs above (k .0 .1, k .1 .1))
+    (a .0, reduced-below (r .key) .1 (k .0 .0), keyed-rising (r .key + 1) rs above (k .0 .1, k .1 .1))
 
 -- ---- The scan of the keys: what is left of it decides the whole
 

@@ -9,15 +9,12 @@ use lib.ListN.{length, getD, set, take, drop, replicate, length-append, length-d
 use lib.Seq.{length-take-le, take-suc, take-length, drop-length, append-snoc, set-at, take-at, drop-at, drop-drop}
 use Rattle.operations.specs.Operations.{Row}
 use Rattle.replay.specs.Replay.{rowOf, rowsOf}
+use Rattle.store.specs.Laws.Words.{joined-append}
 use Rattle.store.specs.Layout.{word, joined, rowWords}
 use Rattle.store.specs.Laws.Objects.{rows-length}
 use Rattle.objects.specs.Objects.{wordsOf}
 
 -- ---- Rows, one after the other
-
-joined-append : {A : Type 0} (f : A → List ℕ) (xs ys : List A) → joined f (xs ++ ys) ≡ joined f xs ++ joined f ys
-joined-append f [] ys = refl
-joined-append f (x ∷ xs) ys = ap (λ (l : List ℕ). f x ++ l) (joined-append f xs ys) ∙ sym (append-assoc (f x) (joined f xs) (joined f ys))
 
 put-two : (front rest : List ℕ) (k a b : ℕ) → length front ≡ k → 2 ≤ length rest
     → set (set (front ++ rest) k a) (k + 1) b ≡ front ++ (a ∷ b ∷ []) ++ drop 2 rest

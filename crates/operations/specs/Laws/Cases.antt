@@ -1,11 +1,12 @@
--- Case analysis on a test, on two numbers and on a key; what an answer says; laws of `All`.
-use Prim.Native.Nat.{ℕ}
-use mathlib.Core.Path.{_≡_, refl, sym, _∙_, subst}
+-- Case analysis on a test, on two numbers and on a key; what an answer says; laws of `All` and of lists.
+use Prim.Native.Nat.{ℕ, zero, suc}
+use mathlib.Core.Path.{_≡_, refl, sym, ap, _∙_, subst}
 use mathlib.Core.Bool.{Bool, true, false, true≢false}
 use mathlib.Core.Logic.{_↔_}
-use mathlib.Core.List.{List, [], _∷_, _++_}
+use mathlib.Core.List.{List, [], _∷_, _++_, map}
 use borrow.Author.Tests.{eqb-true, eqb-false}
 use lib.Dec.{eqb}
+use lib.ListN.{set}
 use Rattle.operations.specs.Operations.{All}
 
 pub split : {A : Type 0} (b : Bool) → (b ≡ true → A) → (b ≡ false → A) → A
@@ -43,3 +44,8 @@ module _ {A : Type 0} where
   pub all-append : (P : A → Type 0) (l m : List A) → All P l → All P m → All P (l ++ m)
   all-append P [] m p q = q
   all-append P (x ∷ l) m p q = (p .0, all-append P l m (p .1) q)
+
+pub map-set : {A B : Type 0} (f : A → B) (xs : List A) (i : ℕ) (x : A) → map f (set xs i x) ≡ set (map f xs) i (f x)
+map-set f [] i x = refl
+map-set f (y ∷ ys) zero x = refl
+map-set {A} {B} f (y ∷ ys) (suc i) x = ap (λ (q : List B). f y ∷ q) (map-set f ys i x)

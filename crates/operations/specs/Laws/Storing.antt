@@ -1,6 +1,7 @@
 -- Arguments are stored once: what is stored fits, and is read back as it is.
-use Prim.Native.Nat.{ℕ, zero, suc}
+use Prim.Native.Nat.{ℕ, zero, suc, _<_}
 use mathlib.Core.Path.{_≡_, refl, subst}
+use mathlib.Core.Logic.{_↔_}
 use mathlib.Core.Option.{none, some, Option·none-ne-some}
 use mathlib.Core.List.{List, [], _∷_, map}
 use native.Mathlib.Omega.{arith}
@@ -24,6 +25,10 @@ module _ (reduce : ℕ → ℕ) (once : (k : ℕ) → Reduced reduce (reduce k))
 pub reduced-once : (k : ℕ) → Reduced reduceKey (reduceKey k)
 unfolding reduceKey
 reduced-once k = omega arith
+
+pub reduced-below : (k : ℕ) → (k < 16_777_216) ↔ Reduced reduceKey k
+unfolding reduceKey
+reduced-below k = (λ l. omega arith, λ e. omega arith)
 
 -- An operation is read back from the number, key and value that are stored for it.
 pub read-back : (o : Operation) → stored (λ k. k) (numberOf o) (keyOf o) (valueOf o) ≡ some o

@@ -7,9 +7,10 @@ use native.Mathlib.Omega.{arith}
 use lib.Dec.{eqb}
 use lib.ListN.{length, getD, take, set, length-set, length-map, List·getD-map}
 use lib.Seq.{length-take-le, take-take, take-set-lt}
+use Rattle.operations.specs.Laws.Cases.{map-set}
 use Rattle.operations.specs.Operations.{found, present, inserted, deleted, modified, topItem, valued, replied}
 use Rattle.replay.specs.Replay.{rowOf, rowsOf, Holds, positionOf, putAt, removedAt}
-use Rattle.replay.specs.Laws.Lists.{put-last, map-take, map-put, map-removed, map-set, length-put, length-removed, getD-default, opened-end}
+use Rattle.replay.specs.Laws.Lists.{put-last, map-take, map-put, map-removed, length-put, length-removed, getD-default, opened-end}
 use Rattle.replay.specs.Laws.Positions.{rowAt, there, absent, tested, untested, inserted-more}
 
 -- ---- Reading

@@ -80,8 +80,3 @@ module _ {A B : Type 0} (f : A → B) where
   map-removed (suc i) [] = refl
   map-removed zero (x ∷ xs) = refl
   map-removed (suc i) (x ∷ xs) = ap (λ q. f x ∷ q) (map-removed i xs)
-
-  pub map-set : (xs : List A) (i : ℕ) (x : A) → map f (set xs i x) ≡ set (map f xs) i (f x)
-  map-set [] i x = refl
-  map-set (y ∷ ys) zero x = refl
-  map-set (y ∷ ys) (suc i) x = ap (λ q. f y ∷ q) (map-set ys i x)

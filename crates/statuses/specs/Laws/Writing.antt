@@ -8,8 +8,8 @@ use borrow.Author.Tests.{ltb-true}
 use lib.Dec.{ltb}
 use lib.ListN.{length, getD, set, length-append, length-map}
 use lib.Seq.{set-append-left, set-append-seam, getD-append-seam}
+use Rattle.operations.specs.Laws.Cases.{map-set}
 use Rattle.bitset.specs.Laws.{bit}
-use Rattle.replay.specs.Laws.Lists.{map-set}
 use Rattle.store.specs.Store.{Status, Store}
 use Rattle.store.specs.Layout.{base, decode, encode, Packed, statusWord, readStatus}
 use Rattle.store.specs.Steps.{withStatus, lowered, closedUp}

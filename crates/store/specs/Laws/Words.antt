@@ -1,8 +1,8 @@
 -- Words by place: of lists after each other, of zeros, and of tables, whose rows have k words each.
 use Prim.Native.Nat.{ℕ, zero, suc, _+_, _-_, _*_, _/_, _%_, _≤_, _<_}
-use mathlib.Core.Path.{_≡_, sym, ap, _∙_, subst}
+use mathlib.Core.Path.{_≡_, refl, sym, ap, _∙_, subst}
 use mathlib.Core.Bool.{true, false}
-use mathlib.Core.List.{List, [], _∷_, _++_}
+use mathlib.Core.List.{List, [], _∷_, _++_, append-assoc}
 use native.Mathlib.Nat.{not-suc-le-zero, mul-zero, mul-suc, mul-le-mul-left, zero-mul, div-add-mod, mod-lt, lt-of-mul-lt-mul-left}
 use native.Mathlib.Omega.{arith}
 use borrow.Author.Tests.{ltb-true, ltb-false}
@@ -60,6 +60,10 @@ module _ (n : ℕ) (ws : List ℕ) where
   padded-past i l =
       let e : i ≡ length ws + (i - length ws) = omega arith in
       ap (word (padded n ws)) e ∙ getD-append-add ws (replicate (n - length ws) 0) (i - length ws) 0 ∙ zeros-word (n - length ws) (i - length ws)
+
+pub joined-append : {A : Type 0} (f : A → List ℕ) (xs ys : List A) → joined f (xs ++ ys) ≡ joined f xs ++ joined f ys
+joined-append f [] ys = refl
+joined-append f (x ∷ xs) ys = ap (λ (l : List ℕ). f x ++ l) (joined-append f xs ys) ∙ sym (append-assoc (f x) (joined f xs) (joined f ys))
 
 -- ---- Rows of k words
 
