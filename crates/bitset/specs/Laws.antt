@@ -1,18 +1,18 @@
 -- The members of the sets that a shift, `|`, `&` and `!` make, the test of one bit, and the lowest member; sets by their members.
 use mathlib.Core.Path.{_≡_, refl, sym, ap, _∙_}
-use mathlib.Core.Bool.{Bool, true, false, cond, not, _&&_, _||_, true≢false, false≢true}
-use mathlib.Core.Logic.{_↔_}
+use mathlib.Core.Bool.{Bool, true, false, cond, not, _&&_, _||_, true≢false, false≢true, and-eq-true-iff}
+use mathlib.Core.Logic.{_↔_, _⊎_, inl, inr, ⊎-elim}
 use Prim.Native.Nat.{ℕ, zero, suc, _-_, _*_, _/_, _%_, _^_, _<_, _≤_}
 use native.Mathlib.Nat.{zero-lt-suc, not-suc-le-zero, lt-of-not-le, lt-of-lt-of-le, mod-lt, mod-eq-of-lt, one-mul, pow-suc, div-one, zero-div, div-eq-of-lt, mul-mod-left, mul-div-mul-right}
 use native.Mathlib.Numerals.{one-add}
 use native.Mathlib.Omega.{arith}
-use borrow.Author.Tests.{eqb-true, eqb-false}
+use borrow.Author.Tests.{eqb-true, eqb-false, ne-eqb, not-true}
 use lib.Arith.{bin-ind, lt-one}
 use lib.Bits.{bitAnd, bitOr, bitXor, and-shr, or-shr, xor-shr, and-mod, or-mod, xor-mod, and-mask, and-comm, and-le-r, xor-add-and}
 use lib.Count.{trailingZeros, under}
 use lib.Dec.{eqb, eqb·zero-suc, eqb·suc-zero, eqb·suc-suc}
 use lib.Pow.{pow-mono, pow-lt, shr-shr}
-use Rattle.bitset.specs.Bitset.{has, Members, Lowest}
+use Rattle.bitset.specs.Bitset.{has, Members, In, Lowest}
 
 power : (t : ℕ) → Members (2 ^ t) (λ h. eqb h t)
 unfolding has
@@ -185,3 +185,18 @@ above-self (suc n) = omega (arith, pow-suc 2 n, above-self n)
 -- A set that is not 0 has a member.
 pub some-member : (s : ℕ) → (s ≡ 0 → ⊥) → (h : ℕ) × (has s h ≡ true)
 some-member s some = (trailingZeros s s, lowest-bit s s (above-self s) some .0)
+
+-- ---- Members of a union, and of a set without one
+
+pub either : (a b : Bool) → ((a || b) ≡ true) ↔ ((a ≡ true) ⊎ (b ≡ true))
+either true b = (λ e. inl refl, λ s. refl)
+either false b = (inr, ⊎-elim (λ e. absurd (false≢true e)) (λ e. e))
+
+pub in-union : (r a b : ℕ) → Members r (λ h. has a h || has b h) → (h : ℕ) → In r h ↔ (In a h ⊎ In b h)
+in-union r a b union h = (λ m. either (has a h) (has b h) .0 (sym (union h) ∙ m), λ m. union h ∙ either (has a h) (has b h) .1 m)
+
+pub in-rest : (r s t : ℕ) → Members r (λ h. has s h && not (eqb h t)) → (h : ℕ) → In r h ↔ (In s h × (h ≡ t → ⊥))
+in-rest r s t rest h = (
+  λ m. let both = and-eq-true-iff (has s h) (not (eqb h t)) .0 (sym (rest h) ∙ m) in (both .0, eqb-false h t (not-true (eqb h t) (both .1))),
+  λ m. rest h ∙ and-eq-true-iff (has s h) (not (eqb h t)) .1 (m .0, ap not (ne-eqb h t (m .1))),
+)

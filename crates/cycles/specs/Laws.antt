@@ -4,27 +4,17 @@ use mathlib.Core.Path.{_≡_, refl, sym, ap, subst, _∙_}
 use mathlib.Core.Bool.{Bool, true, false, not, _&&_, _||_, true≢false, and-eq-true-iff}
 use mathlib.Core.Logic.{_⊎_, inl, inr, ⊎-elim, _↔_}
 use mathlib.Core.List.{List}
-use borrow.Author.Tests.{eq-eqb, ne-eqb, eqb-false, eqb-true, not-true}
+use borrow.Author.Tests.{eq-eqb, eqb-true}
 use lib.Dec.{eqb}
 use lib.ListN.{getD}
 use Rattle.operations.specs.Laws.Cases.{split, same}
 use Rattle.bitset.specs.Bitset.{has, Members, In}
-use Rattle.bitset.specs.Laws.{no-member, no-members, some-member, member-below, part-less}
+use Rattle.bitset.specs.Laws.{no-member, no-members, some-member, member-below, part-less, in-union, in-rest}
 use Rattle.store.specs.Dependency.{Way, Path}
 use Rattle.store.specs.Laws.Ways.{onward, shortened}
 use Rattle.cycles.specs.Cycles.{EdgeIn, Reaches}
 
--- ---- Members of unions, of intersections, of the empty set, and of a set without one
-
-module _ (r a b : ℕ) (union : Members r (λ h. has a h || has b h)) where
-  in-either : (h : ℕ) → In r h → In a h ⊎ In b h
-  in-either h m = split (has a h) inl (λ (e : has a h ≡ false). inr (ap (λ (x : Bool). x || has b h) (sym e) ∙ sym (union h) ∙ m))
-
-  in-left : (h : ℕ) → In a h → In r h
-  in-left h m = union h ∙ ap (λ (x : Bool). x || has b h) m
-
-  in-right : (h : ℕ) → In b h → In r h
-  in-right h m = split (has a h) (in-left h) (λ (e : has a h ≡ false). union h ∙ ap (λ (x : Bool). x || has b h) e ∙ m)
+-- ---- Members of intersections, of the empty set, and of a set without one
 
 empty : (s h : ℕ) → s ≡ 0 → In s h → ⊥
 empty s h e m = true≢false (sym m ∙ ap (λ (x : ℕ). has x h) e ∙ no-member h)
@@ -35,18 +25,11 @@ in-both r a b h both m = and-eq-true-iff (has a h) (has b h) .0 (sym (both h) �
 of-both : (r a b h : ℕ) → Members r (λ k. has a k && has b k) → In a h → In b h → In r h
 of-both r a b h both m n = both h ∙ and-eq-true-iff (has a h) (has b h) .1 (m, n)
 
-module _ (r s t : ℕ) (rest : Members r (λ h. has s h && not (eqb h t))) where
-  in-part : (h : ℕ) → In r h → In s h × (not (eqb h t) ≡ true)
-  in-part h m = and-eq-true-iff (has s h) (not (eqb h t)) .0 (sym (rest h) ∙ m)
-
-  in-rest : (h : ℕ) → In s h → (h ≡ t → ⊥) → In r h
-  in-rest h m other = rest h ∙ and-eq-true-iff (has s h) (not (eqb h t)) .1 (m, ap not (ne-eqb h t other))
-
-  -- The rest is less as a number, so that a walk over the members ends.
-  pub rest-less : In s t → r < s
-  rest-less =
-      part-less r s t (λ h m. in-part h m .0)
-      (split (has r t) (λ (m : In r t). absurd (eqb-false t t (not-true (eqb t t) (in-part t m .1)) refl)) (λ (e : has r t ≡ false). e))
+-- A set without one of its members is less as a number, so that a walk over the members ends.
+pub rest-less : (r s t : ℕ) → Members r (λ h. has s h && not (eqb h t)) → In s t → r < s
+rest-less r s t rest =
+    part-less r s t (λ h m. in-rest r s t rest h .0 m .0)
+    (split (has r t) (λ (m : In r t). absurd (in-rest r s t rest t .0 m .1 refl)) (λ (e : has r t ≡ false). e))
 
 -- ---- The search
 
@@ -78,14 +61,14 @@ module _ (sets : List ℕ) (through from : ℕ) where
             (λ (f : In found b).
             let p = s .ways next r in
             (suc (p .0), onward (EdgeIn sets) (In through) (p .0) from next b (p .1) (s .within next l) (subst (λ (x : ℕ). In x b) e f)))
-            (in-either more reached found union b m);
-        first = λ b m. in-left more reached found union b (s .first b m);
-        within = λ c m. s .within c (in-part rest left next without c m .0);
+            (in-union more reached found union b .0 m);
+        first = λ b m. in-union more reached found union b .1 (inl (s .first b m));
+        within = λ c m. s .within c (in-rest rest left next without c .0 m .0);
         expanded =
             λ (c : ℕ) (t : In through c) (out : In rest c → ⊥) (b : ℕ) (f : EdgeIn sets c b).
             same c next
-            (λ (q : c ≡ next). in-right more reached found union b (subst (λ (x : ℕ). In x b) (ap (λ (x : ℕ). getD sets x 0) q ∙ sym e) f))
-            (λ (other : c ≡ next → ⊥). in-left more reached found union b (s .expanded c t (λ m. out (in-rest rest left next without c m other)) b f));
+            (λ (q : c ≡ next). in-union more reached found union b .1 (inr (subst (λ (x : ℕ). In x b) (ap (λ (x : ℕ). getD sets x 0) q ∙ sym e) f)))
+            (λ (other : c ≡ next → ⊥). in-union more reached found union b .1 (inl (s .expanded c t (λ m. out (in-rest rest left next without c .1 (m, other))) b f)));
       }
 
   -- A set that holds whatever its members lead to holds the end of each way from it.
@@ -132,10 +115,10 @@ module _ (P : ℕ → Type 0) (set : ℕ) where
   pub walk-turned : (left next rest : ℕ) → Walk left → P next → Members rest (λ h. has left h && not (eqb h next)) → Walk rest
   walk-turned left next rest w p without =
       record {
-        within = λ t m. w .within t (in-part rest left next without t m .0);
+        within = λ t m. w .within t (in-rest rest left next without t .0 m .0);
         passed =
             λ (t : ℕ) (m : In set t) (out : In rest t → ⊥).
-            same t next (λ (e : t ≡ next). subst P (sym e) p) (λ (other : t ≡ next → ⊥). w .passed t m (λ l. out (in-rest rest left next without t l other)));
+            same t next (λ (e : t ≡ next). subst P (sym e) p) (λ (other : t ≡ next → ⊥). w .passed t m (λ l. out (in-rest rest left next without t .1 (l, other))));
       }
 
   pub walk-ended : (left : ℕ) → Walk left → left ≡ 0 → (t : ℕ) → In set t → P t

@@ -1,17 +1,17 @@
 -- What the operations on sets make of the predicates that tell their members.
 use Prim.Native.Nat.{ℕ, zero, suc, _+_, _<_}
 use mathlib.Core.Path.{_≡_, refl, sym, subst, _∙_}
-use mathlib.Core.Bool.{Bool, true, false, not, _&&_, _||_, true≢false, and-eq-true-iff}
+use mathlib.Core.Bool.{true, false, not, _&&_, _||_, true≢false}
 use mathlib.Core.Logic.{_↔_, _⊎_, inl, inr, ⊎-elim}
 use mathlib.Core.List.{List}
 use native.Mathlib.Omega.{arith}
-use borrow.Author.Tests.{eqb-true, eqb-false, eq-eqb, ne-eqb, not-true}
+use borrow.Author.Tests.{eqb-true, eq-eqb}
 use lib.Dec.{eqb}
 use lib.ListN.{getD, set, length, replicate}
 use lib.Seq.{getD-set-same, getD-set-other}
 use Rattle.operations.specs.Laws.Cases.{split, same}
 use Rattle.bitset.specs.Bitset.{has, Members, Holds, Represents}
-use Rattle.bitset.specs.Laws.{empty}
+use Rattle.bitset.specs.Laws.{empty, in-union, in-rest}
 use Rattle.dependencies.specs.Dependencies.{Some, WithOwner}
 
 -- ---- Some number below n
@@ -30,10 +30,6 @@ some-more P n = (⊎-elim old (λ p. (n, omega arith, p)), back)
 
 -- ---- One set
 
-either : (a b : Bool) → ((a || b) ≡ true) ↔ ((a ≡ true) ⊎ (b ≡ true))
-either true b = (λ e. inl refl, λ s. refl)
-either false b = (inr, ⊎-elim (λ e. absurd (true≢false (sym e))) (λ e. e))
-
 pub holds-none : (P : ℕ → Type 0) → ((b : ℕ) → P b → ⊥) → Holds 0 P
 holds-none P none b = (λ e. absurd (true≢false (sym e ∙ empty 0 .0 refl b)), λ p. absurd (none b p))
 
@@ -42,14 +38,14 @@ holds-same P Q s p e b = (λ h. e b .0 (p b .0 h), λ q. p b .1 (e b .1 q))
 
 pub holds-join : (P Q : ℕ → Type 0) (s t u : ℕ) → Holds s P → Holds t Q → Members u (λ b. has s b || has t b) → Holds u (λ b. P b ⊎ Q b)
 holds-join P Q s t u p q m b = (
-  λ e. ⊎-elim (λ f. inl (p b .0 f)) (λ f. inr (q b .0 f)) (either (has s b) (has t b) .0 (sym (m b) ∙ e)),
-  λ f. m b ∙ either (has s b) (has t b) .1 (⊎-elim (λ x. inl (p b .1 x)) (λ x. inr (q b .1 x)) f),
+  λ e. ⊎-elim (λ f. inl (p b .0 f)) (λ f. inr (q b .0 f)) (in-union u s t m b .0 e),
+  λ f. in-union u s t m b .1 (⊎-elim (λ x. inl (p b .1 x)) (λ x. inr (q b .1 x)) f),
 )
 
 pub holds-without : (P : ℕ → Type 0) (s t u : ℕ) → Holds s P → Members u (λ b. has s b && not (eqb b t)) → Holds u (λ b. P b × (b ≡ t → ⊥))
 holds-without P s t u p m b = (
-  λ e. let both = and-eq-true-iff (has s b) (not (eqb b t)) .0 (sym (m b) ∙ e) in (p b .0 (both .0), eqb-false b t (not-true (eqb b t) (both .1))),
-  λ q. m b ∙ and-eq-true-iff (has s b) (not (eqb b t)) .1 (p b .1 (q .0), rw (ne-eqb b t (q .1))),
+  λ e. let r = in-rest u s t m b .0 e in (p b .0 (r .0), r .1),
+  λ q. in-rest u s t m b .1 (p b .1 (q .0), q .1),
 )
 
 -- A set that is 0 exactly where the predicate tells nobody.

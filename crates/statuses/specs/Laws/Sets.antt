@@ -8,13 +8,9 @@ use native.Mathlib.Omega.{arith}
 use borrow.Author.Tests.{eqb-true, eq-eqb}
 use lib.Dec.{eqb}
 use Rattle.bitset.specs.Bitset.{has, Members, Holds}
-use Rattle.bitset.specs.Laws.{no-member, half, same-members}
+use Rattle.bitset.specs.Laws.{no-member, half, same-members, either}
 use Rattle.operations.specs.Laws.Cases.{same}
 use Rattle.statuses.specs.Statuses.{Downward}
-
-either : (a b : Bool) → (a || b) ≡ true → (a ≡ true) ⊎ (b ≡ true)
-either true b e = inl refl
-either false b e = inr e
 
 absorbed : (a b : Bool) → (b ≡ true → a ≡ true) → (a || b) ≡ a
 absorbed true b h = refl
@@ -36,7 +32,7 @@ module _ (set n : ℕ) where
 -- A set with one member more.
 pub one-more : (set next n : ℕ) → Members next (λ h. has set h || eqb h n) → (h : ℕ) → (has next h ≡ true) ↔ ((has set h ≡ true) ⊎ (h ≡ n))
 one-more set next n members h = (
-  λ e. ⊎-elim inl (λ (m : eqb h n ≡ true). inr (eqb-true h n m)) (either (has set h) (eqb h n) (sym (members h) ∙ e)),
+  λ e. ⊎-elim inl (λ (m : eqb h n ≡ true). inr (eqb-true h n m)) (either (has set h) (eqb h n) .0 (sym (members h) ∙ e)),
   ⊎-elim
       (λ (e : has set h ≡ true). members h ∙ ap (λ (b : Bool). b || eqb h n) e)
       (λ (e : h ≡ n). members h ∙ ap (λ (b : Bool). has set h || b) (eq-eqb h n e) ∙ or-true (has set h)),
