@@ -15,6 +15,11 @@ abbrev pub Served : List (Entry Operation Reply) → List Row → Type 0
 Served [] rs = Unit {0}
 Served (e ∷ l) rs = (reply (e .operation) rs ≡ e .answer) × Served l (next (e .operation) rs)
 
+-- The rows that serving them reaches.
+abbrev pub replayed : List (Entry Operation Reply) → List Row → List Row
+replayed [] rs = rs
+replayed (e ∷ l) rs = replayed l (next (e .operation) rs)
+
 -- Besides, the entries' pushes and inserts fit in beside the rows that are used.
 abbrev pub Replayed : ℕ → List (Entry Operation Reply) → List Row → Type 0
 Replayed used l rs = (used + additions l ≤ 64) × Served l rs

@@ -1,13 +1,15 @@
 // Whether each log entry has the answer that replay gives, and whether there is room for the rows that entries may need.
+use operations::Operation;
 use operations::Reply;
 ghost use mathlib.Core.Path.{_≡_};
 ghost use mathlib.Core.Bool.{true};
 ghost use mathlib.Core.Logic.{_↔_};
 ghost use Prim.Native.Nat.{_<_};
 ghost use Rattle.operations.specs.Stored.{asReply};
-ghost use Rattle.store.specs.Layout.{word, decode, Packed, base};
+ghost use Rattle.replay.specs.Replay.{replyOf};
+ghost use Rattle.store.specs.Layout.{word, decode, rowsAt, Packed, base};
 ghost use Rattle.store.specs.Soundness.{EntriesFit, EntriesAnswered, Room};
-ghost use Rattle.answers.specs.Answers.{NextEntry, Links, Linked, rowsNeeded, ObjectAnswered};
+ghost use Rattle.answers.specs.Answers.{NextEntry, Links, Linked, rowsNeeded, ObjectAnswered, entriesFrom, replayed};
 
 // Links the log's entries by object, from the last: the first entry of each object, and at each entry the next one of its object.
 // The number of entries stands for no entry.
@@ -25,7 +27,7 @@ fn link(book: &[u32], heads: &mut [usize; 16], links: &mut [usize; 256])
 }
 
 // How many rows an operation may need: one for a push or an insert.
-fn rows_needed(number: u32) -> usize
+pub fn rows_needed(number: u32) -> usize
     ensures { λ r. ⌜ r ≡ rowsNeeded number ⌝ }
 {
     match number {
@@ -92,4 +94,44 @@ pub fn answered(book: &[u32]) -> bool
         }
     }
     true
+}
+
+// Rows plus logged pushes and inserts of an object.
+pub fn used(book: &[u32], object: usize) -> usize
+    requires { ⌜ Packed base (now book) × (object < 16) ⌝ }
+    ensures { λ r. ⌜ r ≡ base .used (decode base (now (book .entry))) object ⌝ }
+{
+    let mut used = layout::row_count(book, object);
+    let entries = layout::entry_count(book);
+    for i in 0..entries {
+        if layout::wide(layout::entry_object(book, i)) == object {
+            let operation = layout::entry_operation(book, i);
+            used += rows_needed(operation.number);
+        }
+    }
+    used
+}
+
+// The answer that replay gives an operation after the object's rows and its entries in order.
+pub fn answer(book: &[u32], object: usize, operation: Operation) -> Reply
+    requires { ⌜ Packed base (now book) × (object < 16) × Room base (decode base (now book)) ⌝ }
+    ensures { λ r. ⌜ asReply r ≡ replyOf operation (replayed (entriesFrom (now (book .entry)) object 0) (rowsAt (now (book .entry)) object)) ⌝ }
+{
+    let entries = layout::entry_count(book);
+    let mut rows = layout::copied_rows(book, object);
+    let mut count = layout::row_count(book, object);
+    for i in 0..entries {
+        let on = layout::wide(layout::entry_object(book, i));
+        if on == object {
+            let logged = layout::entry_operation(book, i);
+            let at = replay::place(&rows, count, logged);
+            let next = replay::next_count(&rows, count, at, logged);
+            if !replay::keeps_rows(&rows, count, at, logged) {
+                rows = replay::next_rows(rows, count, at, logged);
+            }
+            count = next;
+        }
+    }
+    let at = replay::place(&rows, count, operation);
+    replay::reply(&rows, count, at, operation)
 }

@@ -65,6 +65,9 @@ pub no-member : (h : ℕ) → has 0 h ≡ false
 unfolding has
 no-member h = rw (zero-div)
 
+pub nobody-in : (s h : ℕ) → s ≡ 0 → In s h → ⊥
+nobody-in s h e m = true≢false (sym m ∙ ap (λ (x : ℕ). has x h) e ∙ no-member h)
+
 -- The members but 0, each lowered by one, are those of the half.
 pub half : (s h : ℕ) → has (s / 2) h ≡ has s (suc h)
 unfolding has

@@ -1,23 +1,20 @@
 -- The search for all that is reached, and walks over a set's members.
 use Prim.Native.Nat.{ℕ, zero, suc, _^_, _<_}
 use mathlib.Core.Path.{_≡_, refl, sym, ap, subst, _∙_}
-use mathlib.Core.Bool.{Bool, true, false, not, _&&_, _||_, true≢false, and-eq-true-iff}
-use mathlib.Core.Logic.{_⊎_, inl, inr, ⊎-elim, _↔_}
+use mathlib.Core.Bool.{Bool, true, false, not, _&&_, _||_, and-eq-true-iff}
+use mathlib.Core.Logic.{inl, inr, ⊎-elim, _↔_}
 use mathlib.Core.List.{List}
 use borrow.Author.Tests.{eq-eqb, eqb-true}
 use lib.Dec.{eqb}
 use lib.ListN.{getD}
 use Rattle.operations.specs.Laws.Cases.{split, same}
 use Rattle.bitset.specs.Bitset.{has, Members, In}
-use Rattle.bitset.specs.Laws.{no-member, no-members, some-member, member-below, part-less, in-union, in-rest}
+use Rattle.bitset.specs.Laws.{nobody-in, no-members, some-member, member-below, part-less, in-union, in-rest}
 use Rattle.store.specs.Dependency.{Way, Path}
 use Rattle.store.specs.Laws.Ways.{onward, shortened}
 use Rattle.cycles.specs.Cycles.{EdgeIn, Reaches}
 
--- ---- Members of intersections, of the empty set, and of a set without one
-
-empty : (s h : ℕ) → s ≡ 0 → In s h → ⊥
-empty s h e m = true≢false (sym m ∙ ap (λ (x : ℕ). has x h) e ∙ no-member h)
+-- ---- Members of intersections, and of a set without one
 
 pub in-both : (r a b h : ℕ) → Members r (λ k. has a k && has b k) → In r h → In a h × In b h
 in-both r a b h both m = and-eq-true-iff (has a h) (has b h) .0 (sym (both h) ∙ m)
@@ -83,7 +80,7 @@ module _ (sets : List ℕ) (through from : ℕ) where
   ended reached left waiting s both none b = (
     s .ways b,
     λ (w : Path (EdgeIn sets) (In through) from b).
-        closed reached (λ c t m. s .expanded c t (λ (l : In left c). empty waiting c none (of-both waiting reached left c both m l)))
+        closed reached (λ c t m. s .expanded c t (λ (l : In left c). nobody-in waiting c none (of-both waiting reached left c both m l)))
         (w .0) from b (s .first) (w .1),
   )
 
@@ -122,7 +119,7 @@ module _ (P : ℕ → Type 0) (set : ℕ) where
       }
 
   pub walk-ended : (left : ℕ) → Walk left → left ≡ 0 → (t : ℕ) → In set t → P t
-  walk-ended left w none t m = w .passed t m (empty left t none)
+  walk-ended left w none t m = w .passed t m (nobody-in left t none)
 
   -- One that is not such.
   pub walk-stopped : (left next : ℕ) → Walk left → In left next → (P next → ⊥) → ((t : ℕ) → In set t → P t) → ⊥
@@ -132,10 +129,10 @@ module _ (P : ℕ → Type 0) (set : ℕ) where
 
 pub nobody : (set found : ℕ) → found ≡ set → (eqb found 0 ≡ true) ↔ ((u : ℕ) → In set u → ⊥)
 nobody set found e = (
-  λ (z : eqb found 0 ≡ true) (u : ℕ). empty set u (sym e ∙ eqb-true found 0 z),
+  λ (z : eqb found 0 ≡ true) (u : ℕ). nobody-in set u (sym e ∙ eqb-true found 0 z),
   λ (none : (u : ℕ) → In set u → ⊥).
       eq-eqb found 0 (e ∙ no-members set (λ h. split (has set h) (λ (m : In set h). absurd (none h m)) (λ (q : has set h ≡ false). q))),
 )
 
 pub somebody : (set : ℕ) → (((u : ℕ) → In set u → ⊥) → ⊥) → (u : ℕ) × In set u
-somebody set some = some-member set (λ (e : set ≡ 0). some (λ u. empty set u e))
+somebody set some = some-member set (λ (e : set ≡ 0). some (λ u. nobody-in set u e))

@@ -14,6 +14,9 @@ pub const WORDS: usize = 3937;
 
 pub const TRANSACTIONS: usize = 64;
 
+// Stands for no transaction.
+pub const NOBODY: u32 = 64;
+
 pub const OBJECTS: usize = 16;
 
 pub const ENTRIES: usize = 256;

@@ -1,7 +1,7 @@
 -- Laws for the functions of `sound`.
 use Prim.Native.Nat.{ℕ}
-use mathlib.Core.Path.{_≡_, refl}
-use mathlib.Core.Bool.{Bool, true, false}
+use mathlib.Core.Path.{_≡_, refl, sym}
+use mathlib.Core.Bool.{Bool, true, false, true≢false}
 use mathlib.Core.Logic.{_↔_}
 use mathlib.Core.List.{List}
 use native.Mathlib.Nat.{le-refl}
@@ -9,7 +9,7 @@ use lib.ListN.{length}
 use Rattle.bitset.specs.Bitset.{Holds, Represents, In}
 use Rattle.operations.specs.Laws.Cases.{no, denied}
 use Rattle.store.specs.Store.{Store, Live, PseudoCommitted}
-use Rattle.store.specs.Dependency.{DependsOn, Way}
+use Rattle.store.specs.Dependency.{DependsOn, Way, OnCycle}
 use Rattle.store.specs.Layout.{base, Packed}
 use Rattle.store.specs.Soundness.{EntriesLive, Acyclic, Dependent}
 use Rattle.store.specs.Laws.Dependencies.{depended-on}
@@ -20,6 +20,10 @@ use Rattle.cycles.specs.Cycles.{EdgeIn}
 pub refused : {b : Bool} {P Q : Type 0} → (b ≡ true) ↔ P → b ≡ false → (Q → P) → (false ≡ true) ↔ Q
 refused decided fails part = no refl (λ q. denied decided fails (part q))
 
+-- So does one of an examined book, and nothing is then said of the sets.
+pub unsound : {b : Bool} {P Q R : Type 0} → (b ≡ true) ↔ P → b ≡ false → (Q → P) → ((false ≡ true) ↔ Q) × (false ≡ true → R)
+unsound decided fails part = (refused decided fails part, λ e. absurd (true≢false (sym e)))
+
 pub of-another-length : (w : List ℕ) → (length w ≡ 3_937 → ⊥) → (false ≡ true) ↔ Packed base w
 of-another-length w other = no refl (λ (p : Packed base w). other (p .words))
 
@@ -29,12 +33,16 @@ last decided whole part = (λ e. whole (decided .0 e), λ q. decided .1 (part q)
 
 -- What the sets of dependency say is said of the store.
 module _ (s : Store) (sets : List ℕ) (finished : ℕ) (edges : Represents sets (DependsOn (s .log))) (members : Holds finished (PseudoCommitted s)) where
+  pub cycle-said : (t : ℕ) → Way (EdgeIn sets) (In finished) 64 t t ↔ OnCycle s t
+  cycle-said t = (
+    way-monotone (EdgeIn sets) (DependsOn (s .log)) (In finished) (PseudoCommitted s) (λ a b. edges a b .0) (λ c. members c .0) 64 64 (le-refl 64) t t,
+    way-monotone (DependsOn (s .log)) (EdgeIn sets) (PseudoCommitted s) (In finished) (λ a b. edges a b .1) (λ c. members c .1) 64 64 (le-refl 64) t t,
+  )
+
   pub acyclic-said : ((t : ℕ) → In finished t → Way (EdgeIn sets) (In finished) 64 t t → ⊥) ↔ Acyclic s
   acyclic-said = (
-    λ none t p w. none t (members t .1 p)
-        (way-monotone (DependsOn (s .log)) (EdgeIn sets) (PseudoCommitted s) (In finished) (λ a b. edges a b .1) (λ c. members c .1) 64 64 (le-refl 64) t t w),
-    λ none t p w. none t (members t .0 p)
-        (way-monotone (EdgeIn sets) (DependsOn (s .log)) (In finished) (PseudoCommitted s) (λ a b. edges a b .0) (λ c. members c .0) 64 64 (le-refl 64) t t w),
+    λ none t p w. none t (members t .1 p) (cycle-said t .1 w),
+    λ none t p w. none t (members t .0 p) (cycle-said t .0 w),
   )
 
   pub dependent-said : EntriesLive s → ((t : ℕ) → In finished t → (u : ℕ) × EdgeIn sets t u) ↔ Dependent s

@@ -28,7 +28,7 @@ struct Ranks {
     once: bool,
 }
 
-fn status_word(book: &[u32], transaction: u32) -> u32
+pub fn status_word(book: &[u32], transaction: u32) -> u32
     requires { ⌜ (length (now book) ≡ 3937) × (transaction < 64) ⌝ }
     ensures { λ r. ⌜ r ≡ word (now (book .entry)) (1 + transaction) ⌝ }
 {

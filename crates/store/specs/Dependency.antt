@@ -26,6 +26,10 @@ Conflict a b e x =
 abbrev pub DependsOn : List Logged → ℕ → ℕ → Type 0
 DependsOn log a b = (a ≡ b → ⊥) × Follows (Conflict a b) log
 
+-- It depends on nobody.
+abbrev pub Ready : List Logged → ℕ → Type 0
+Ready log t = (u : ℕ) → DependsOn log t u → ⊥
+
 -- ---- Ways along the edges of a graph, through nodes of one sort
 
 module _ (Edge : ℕ → ℕ → Type 0) (Through : ℕ → Type 0) where

@@ -48,7 +48,8 @@ returns-2 : tie.Need-returns-2 Inv-loop μ-loop
 returns-2 c =
     let in-loop = c .before .before .before in
     let begin = start (in-loop .before .before .before) in
-    failed-one (begin .args .book .now) (begin .pre .1) (in-loop .before .loop .object) (omega (arith, in-loop .loop-test .taken)) (c .before .object-answered .result)
+    failed-one (begin .args .book .now) (begin .pre .1) (in-loop .before .loop .object) (omega (arith, in-loop .loop-test .taken))
+    (c .before .object-answered .result)
     (c .before .object-answered .ensures) (c .if2 .taken)
 
 loop-again : tie.Need-loop-again Inv-loop μ-loop

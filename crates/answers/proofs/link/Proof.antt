@@ -37,7 +37,13 @@ below : (c : tie.After-wide Inv-loop μ-loop) → c .wide .result < 16
 below c =
     let at-loop = c .before .before .before in
     let begin = start at-loop in
-    omega (arith, c .wide .ensures, c .before .entry-object .ensures, object-below (begin .args .book .now) (begin .pre .1) (at-loop .loop .i - 1) (omega (arith, at-loop .loop .inv .0, c .before .before .loop-test .taken)))
+    omega (
+      arith,
+      c .wide .ensures,
+      c .before .entry-object .ensures,
+      object-below (begin .args .book .now) (begin .pre .1) (at-loop .loop .i - 1)
+          (omega (arith, at-loop .loop .inv .0, c .before .before .loop-test .taken)),
+    )
 
 loop-again : tie.Need-loop-again Inv-loop μ-loop
 loop-again c =

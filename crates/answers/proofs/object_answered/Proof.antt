@@ -24,7 +24,8 @@ abbrev μ-loop : tie.MeasureT-loop
 returns : tie.Need-returns Inv-loop μ-loop
 returns c =
     let begin = c .before .before .before in
-    untouched (begin .args .book .now) (begin .pre .0) (begin .args .object) (begin .pre .1) (begin .args .first) (begin .pre .2) (c .if1 .taken ∙ c .before .entry-count .ensures)
+    untouched (begin .args .book .now) (begin .pre .0) (begin .args .object) (begin .pre .1) (begin .args .first) (begin .pre .2)
+    (c .if1 .taken ∙ c .before .entry-count .ensures)
 
 copied-rows-requires : tie.Need-copied-rows-requires Inv-loop μ-loop
 copied-rows-requires c κs = let (packed, l, first, links) = c .before .before .before .pre in (packed .words, l, packed .objects _ l .rows)
@@ -53,14 +54,13 @@ readable : (c : tie.In-loop Inv-loop μ-loop) → (length (begin (c .before) .ar
 readable c = (packed (c .before) .words, omega (arith, inside c, packed (c .before) .log .entries))
 
 reached : (c : tie.After-rows-needed Inv-loop μ-loop) → let at-loop = c .before .before .before in
-    Reached (begin at-loop .args .book .now) (begin at-loop .args .object) (at-loop .loop .i) (at-loop .loop .rows) (at-loop .loop .count) (at-loop .loop .used) (c .before .entry-operation .result) (c .rows-needed .result)
+    Reached (begin at-loop .args .book .now) (begin at-loop .args .object) (at-loop .loop .i) (at-loop .loop .rows) (at-loop .loop .count) (at-loop .loop .used)
+    (c .before .entry-operation .result) (c .rows-needed .result)
 reached c =
     let in-loop = c .before .before in
     record {
-      packed = packed (in-loop .before);
+      entry = record { packed = packed (in-loop .before); inside = inside in-loop; words = c .before .entry-operation .ensures };
       state = in-loop .before .loop .inv;
-      inside = inside in-loop;
-      words = c .before .entry-operation .ensures;
       needs = c .rows-needed .ensures;
     }
 
@@ -96,7 +96,8 @@ returns-3 : tie.Need-returns-3 Inv-loop μ-loop
 returns-3 c =
     let answer = c .before .before in
     let reply = answer .before in
-    wrong (reached (reply .before .before .before .before .before)) (reply .reply .result) (answer .entry-answer .result) (c .before .same-reply .result) (reply .reply .ensures)
+    wrong (reached (reply .before .before .before .before .before)) (reply .reply .result) (answer .entry-answer .result) (c .before .same-reply .result)
+    (reply .reply .ensures)
     (answer .entry-answer .ensures) (c .before .same-reply .ensures) (c .if3 .taken)
 
 abbrev placed : tie.After-rows3 Inv-loop μ-loop → tie.After-place Inv-loop μ-loop
@@ -112,7 +113,8 @@ next-rows-requires : tie.Need-next-rows-requires Inv-loop μ-loop
 next-rows-requires c κs = ready (placed (c .before .before .before .before))
 
 -- Whether it was changed or not, the copy has the rows after the operation.
-replayed-rows : (c : tie.Joined4 Inv-loop μ-loop) → let at-place = placed (c .before .before .before .before) in let at-loop = at-place .before .before .before .before .before .before in
+replayed-rows : (c : tie.Joined4 Inv-loop μ-loop) → let at-place = placed (c .before .before .before .before) in
+    let at-loop = at-place .before .before .before .before .before .before in
     Holds (c .if4 .rows) (nextOf (at-place .before .before .before .before .entry-operation .result) (rowsOf (at-loop .loop .rows) (at-loop .loop .count)))
 replayed-rows c =
     ⊎-elim
@@ -130,7 +132,8 @@ next : (c : tie.Joined4 Inv-loop μ-loop) → let at-loop = in-loop c .before in
 next c =
     let at-loop = in-loop c .before in
     let start = begin at-loop in
-    next-linked (start .args .book .now) (start .args .links .now) (start .pre .3) (start .args .object) (at-loop .loop .i) (inside (in-loop c)) (at-loop .loop .inv .own (inside (in-loop c)))
+    next-linked (start .args .book .now) (start .args .links .now) (start .pre .3) (start .args .object) (at-loop .loop .i) (inside (in-loop c))
+    (at-loop .loop .inv .own (inside (in-loop c)))
 
 mul-i : tie.Need-mul-i Inv-loop μ-loop
 mul-i c = omega (arith, readable (in-loop c))

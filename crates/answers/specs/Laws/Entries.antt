@@ -5,50 +5,37 @@ use mathlib.Core.Logic.{_↔_, _⊎_, inl, inr, ⊎-elim}
 use mathlib.Core.Bool.{Bool, true, false, cond, _||_}
 use mathlib.Core.Option.{some}
 use mathlib.Core.List.{List, [], _∷_}
-use native.Mathlib.Numerals.{add-one}
 use native.Mathlib.Omega.{arith}
 use borrow.Author.Tests.{eqb-true, eq-eqb, ne-eqb}
 use lib.Dec.{eqb}
-use lib.ListN.{drop, drop-of-length-le}
-use lib.Seq.{drop-cons}
 use Rattle.operations.specs.Operations as model
 use Rattle.operations.specs.declared.Operation.{Operation}
 use Rattle.operations.specs.declared.Reply.{Reply}
 use Rattle.operations.specs.Stored.{operationOf, asReply}
-use Rattle.operations.specs.Laws.Storing.{read-back}
-use Rattle.store.specs.Store.{Logged, onObject}
-use Rattle.store.specs.Layout.{word, tabulate, entryStart, operationAt, entryAt, AsStored, adds}
-use Rattle.store.specs.Laws.Lists.{length-tabulate, getD-tabulate}
+use Rattle.store.specs.Store.{onObject}
+use Rattle.store.specs.Layout.{word, entryStart, operationAt, entryAt, Packed, adds, base}
+use Rattle.store.specs.Laws.Lists.{drop-tabulate, drop-past}
+use Rattle.store.specs.Laws.Reading.{entry-named}
 use Rattle.answers.specs.Answers.{entriesFrom, rowsNeeded}
 
 module _ (w : List ℕ) where
-  from-entry : (i : ℕ) → i < word w 0 → drop i (tabulate (word w 0) (entryAt w)) ≡ entryAt w i ∷ drop (i + 1) (tabulate (word w 0) (entryAt w))
-  from-entry i l =
-      drop-cons (tabulate (word w 0) (entryAt w)) i (entryAt w i) (rw length-tabulate l)
-      ∙ ap₂ (λ (e : Logged) (n : ℕ). e ∷ drop n (tabulate (word w 0) (entryAt w))) (getD-tabulate (word w 0) (entryAt w) i (entryAt w i) l) (sym (add-one i))
-
   module _ (o i : ℕ) where
     pub entries-own : i < word w 0 → word w (entryStart i + 1) ≡ o → entriesFrom w o i ≡ entryAt w i .entry ∷ entriesFrom w o (i + 1)
     entries-own l e =
-        ap (onObject o) (from-entry i l)
+        ap (onObject o) (drop-tabulate (word w 0) (entryAt w) i l)
         ∙ ap (λ (b : Bool). cond b (entryAt w i .entry ∷ entriesFrom w o (i + 1)) (entriesFrom w o (i + 1))) (eq-eqb (word w (entryStart i + 1)) o e)
 
     pub entries-other : i < word w 0 → (word w (entryStart i + 1) ≡ o → ⊥) → entriesFrom w o i ≡ entriesFrom w o (i + 1)
     entries-other l e =
-        ap (onObject o) (from-entry i l)
+        ap (onObject o) (drop-tabulate (word w 0) (entryAt w) i l)
         ∙ ap (λ (b : Bool). cond b (entryAt w i .entry ∷ entriesFrom w o (i + 1)) (entriesFrom w o (i + 1))) (ne-eqb (word w (entryStart i + 1)) o e)
 
     pub entries-end : word w 0 ≤ i → entriesFrom w o i ≡ []
-    entries-end l = ap (onObject o) (drop-of-length-le (tabulate (word w 0) (entryAt w)) {i = i} (rw length-tabulate l))
+    entries-end l = ap (onObject o) (drop-past (word w 0) (entryAt w) i l)
 
 -- ---- An entry's operation
 
--- The words that are stored for it name it.
-pub read : (w : List ℕ) (i : ℕ) (o : Operation) → AsStored w i → o .number ≡ word w (entryStart i + 2) → o .key ≡ word w (entryStart i + 3)
-    → o .value ≡ word w (entryStart i + 4) → operationOf o ≡ some (operationAt w i)
-read w i o st n k v = cc (read-back (operationAt w i))
-
-pub needed : (o : model.Operation) → rowsNeeded (model.numberOf o) ≡ cond (adds o) 1 0
+needed : (o : model.Operation) → rowsNeeded (model.numberOf o) ≡ cond (adds o) 1 0
 needed (model.onStack (model.push x)) = refl
 needed (model.onStack model.pop) = refl
 needed (model.onStack model.top) = refl
@@ -60,6 +47,19 @@ needed (model.onTable (model.tableDelete k)) = refl
 needed (model.onTable (model.lookup k)) = refl
 needed (model.onTable model.size) = refl
 needed (model.onTable (model.modify k v)) = refl
+
+-- Entry i of the log, and the operation that was read there.
+pub record EntryRead (w : List ℕ) (i : ℕ) (operation : Operation) : Type 0 where
+  pub packed : Packed base w
+  pub inside : i < word w 0
+  pub words : (operation .number ≡ word w (entryStart i + 2)) × (operation .key ≡ word w (entryStart i + 3)) × (operation .value ≡ word w (entryStart i + 4))
+
+module _ {w : List ℕ} {i : ℕ} {operation : Operation} (at : EntryRead w i operation) where
+  pub named : operationOf operation ≡ some (operationAt w i)
+  named = entry-named base w i operation (at .packed) (at .inside) (at .words)
+
+  pub needs-rows : (n : ℕ) → n ≡ rowsNeeded (operation .number) → n ≡ cond (adds (operationAt w i)) 1 0
+  needs-rows n e = e ∙ ap rowsNeeded (at .words .0 ∙ sym (at .packed .log .asStored i (at .inside) .0)) ∙ needed (operationAt w i)
 
 module _ (number : ℕ) where
   pub needed-one : (number ≡ 1) ⊎ ((number ≡ 4) ⊎ (number ≡ 7)) → 1 ≡ rowsNeeded number

@@ -1,22 +1,22 @@
 -- All objects are answered exactly where there is room and the entries are answered.
-use Prim.Native.Nat.{ℕ, _+_, _≤_, _<_}
-use mathlib.Core.Path.{_≡_, refl, sym, ap, _∙_}
+use Prim.Native.Nat.{ℕ, _<_}
+use mathlib.Core.Path.{_≡_, refl, ap}
 use mathlib.Core.Logic.{_↔_}
-use mathlib.Core.Bool.{Bool, true, false, not, cond}
-use mathlib.Core.Option.{Option, none, some, Option·none-ne-some}
+use mathlib.Core.Bool.{Bool, true, false, not}
+use mathlib.Core.Option.{Option, none, some}
 use mathlib.Core.List.{List, [], _∷_}
 use native.Mathlib.Omega.{arith}
-use borrow.Author.Tests.{ltb-true, ltb-false, ne-eqb}
-use lib.Dec.{ltb}
 use lib.ListN.{length}
-use Rattle.operations.specs.Operations.{Kind, Row, Operation, Reply, kindOf, All, reduceKey}
+use Rattle.operations.specs.Operations.{Kind, Row, Operation, Reply, reduceKey}
 use Rattle.operations.specs.Log.{Entry, Answered}
-use Rattle.operations.specs.Laws.Cases.{split, same}
 use Rattle.operations.specs.Laws.Objects.{object}
-use Rattle.store.specs.Store.{Object, Logged, Store, objectOf, onObject}
-use Rattle.store.specs.Layout.{word, decode, Packed, base, rowsAt, additions}
+use Rattle.store.specs.Store.{Object, objectOf}
+use Rattle.store.specs.Layout.{word, decode, Packed, base, rowsAt}
 use Rattle.store.specs.Soundness.{EntriesFit, EntriesAnswered, Room}
-use Rattle.store.specs.Laws.Reading.{object-read, object-past, kind-below}
+use Rattle.store.specs.Laws.Capacity.{unkinded, past-room}
+use Rattle.store.specs.Laws.Lists.{length-tabulate}
+use Rattle.store.specs.Laws.Reading.{object-read, kind-below}
+use Rattle.store.specs.Laws.Words.{below}
 use Rattle.answers.specs.Answers.{Served, entriesFrom, ObjectAnswered}
 use Rattle.answers.specs.Laws.Entries.{entries-end}
 use Rattle.answers.specs.Laws.Replay.{unlogged, failed}
@@ -30,43 +30,28 @@ module _ (kind : Kind) where
   served [] rs a = tt
   served (e ∷ l) rs a = (a .0, served l _ (a .1))
 
--- Entries fit their objects' kinds, so an object without one has no entries.
-unkinded : (s : Store) (o : ℕ) → objectOf s o .kind ≡ none → (log : List Logged)
-    → All (λ (l : Logged). objectOf s (l .object) .kind ≡ some (kindOf (l .entry .operation))) log → onObject o log ≡ []
-unkinded s o k [] fits = refl
-unkinded s o k (e ∷ log) fits =
-    same (e .object) o
-    (λ (p : e .object ≡ o). absurd (Option·none-ne-some _ (sym k ∙ ap (λ (m : ℕ). objectOf s m .kind) (sym p) ∙ fits .0)))
-    (λ (n : e .object ≡ o → ⊥).
-    ap (λ (b : Bool). cond b (e .entry ∷ onObject o log) (onObject o log)) (ne-eqb (e .object) o n) ∙ unkinded s o k log (fits .1))
-
 kinded : {A : Type 0} (k : Option Kind) → (k ≡ none → A) → ((kind : Kind) → k ≡ some kind → A) → A
 kinded none f g = f refl
 kinded (some kind) f g = g kind refl
 
+pub rows-read : (w : List ℕ) (o : ℕ) → o < 16 → objectOf (decode base w) o .rows ≡ rowsAt w o
+rows-read w o l = ap (λ (x : Object). x .rows) (object-read base w o l)
+
 module _ (w : List ℕ) (fits : EntriesFit (decode base w)) where
-  rows-read : (o : ℕ) → o < 16 → objectOf (decode base w) o .rows ≡ rowsAt w o
-  rows-read o l = ap (λ (x : Object). x .rows) (object-read base w o l)
-
-  past : (o : ℕ) → 16 ≤ o → length (objectOf (decode base w) o .rows) + additions (onObject o (decode base w .log)) ≤ 64
-  past o l =
-      let x = object-past base w o l in
-      omega (arith, ap (λ (x : Object). length (x .rows)) x, ap additions (unkinded (decode base w) o (ap (λ (x : Object). x .kind) x) (decode base w .log) fits))
-
   all-answered : ((o : ℕ) → o < 16 → ObjectAnswered w o) → Room base (decode base w) × EntriesAnswered base (decode base w)
   all-answered h = (
-    λ o. split (ltb o 16)
-        (λ (e : ltb o 16 ≡ true). let l = ltb-true o 16 e in omega (arith, h o l .0, ap length (rows-read o l)))
-        (λ (e : ltb o 16 ≡ false). past o (ltb-false o 16 e)),
-    λ o kind k. let l = kind-below base w o kind k in answered kind (entriesFrom w o 0) (objectOf (decode base w) o .rows) (rw (rows-read o l) (h o l .1)),
+    λ o. below o 16 (λ l. omega (arith, h o l .0, ap length (rows-read w o l)))
+        (λ l. past-room (decode base w) fits o (rw (length-tabulate 16 (base .objectAt w)) l)),
+    λ o kind k. let l = kind-below base w o kind k in answered kind (entriesFrom w o 0) (objectOf (decode base w) o .rows) (rw (rows-read w o l) (h o l .1)),
   )
 
   each-answered : Room base (decode base w) × EntriesAnswered base (decode base w) → (o : ℕ) → o < 16 → ObjectAnswered w o
   each-answered (room, answers) o l = (
-    omega (arith, room o, ap length (rows-read o l)),
+    omega (arith, room o, ap length (rows-read w o l)),
     kinded (objectOf (decode base w) o .kind)
         (λ (k : objectOf (decode base w) o .kind ≡ none). rw (unkinded (decode base w) o k (decode base w .log) fits) tt)
-        (λ kind (k : objectOf (decode base w) o .kind ≡ some kind). rw (rows-read o l) at (served kind (entriesFrom w o 0) (objectOf (decode base w) o .rows) (answers o kind k))),
+        (λ kind (k : objectOf (decode base w) o .kind ≡ some kind).
+        rw (rows-read w o l) at (served kind (entriesFrom w o 0) (objectOf (decode base w) o .rows) (answers o kind k))),
   )
 
   pub passed-all : ((o : ℕ) → o < 16 → ObjectAnswered w o) → (true ≡ true) ↔ (Room base (decode base w) × EntriesAnswered base (decode base w))

@@ -95,7 +95,7 @@ module _ (w : List ℕ) (readable : Readable w) where
           λ q. f .other (t ∙ q),
         )
 
-    pub bars : (s u : ℕ) → Holds s Columns → Members u (λ b. has s b && not (eqb b (transactionAt w i))) → Holds u (Bars (related rules) w i)
+    bars : (s u : ℕ) → Holds s Columns → Members u (λ b. has s b && not (eqb b (transactionAt w i))) → Holds u (Bars (related rules) w i)
     bars s u h without =
         holds-same (λ b. Columns b × (b ≡ transactionAt w i → ⊥)) (Bars (related rules) w i) u (holds-without Columns s (transactionAt w i) u h without)
         (λ b. (picked-bars b, bars-picked b))

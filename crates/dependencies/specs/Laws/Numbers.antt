@@ -1,6 +1,6 @@
 -- Operations by number: their kinds and columns, and what the rules pick.
 use Prim.Native.Nat.{ℕ, _+_, _≤_, _<_}
-use mathlib.Core.Path.{_≡_, refl, sym, ap, _∙_}
+use mathlib.Core.Path.{_≡_, refl, ap}
 use mathlib.Core.Bool.{true, false, _||_, true≢false}
 use mathlib.Core.Logic.{_⊎_, inl, inr}
 use mathlib.Core.List.{List}
@@ -12,7 +12,7 @@ use Rattle.operations.specs.Operations.{Kind, Stack, Set, Table, push, pop, top
 use Rattle.operations.specs.PairRules.{Rule, always, never, apart, Rules, allows, ruleAt, firstNumber, lastNumber}
 use Rattle.operations.specs.Laws.Cases.{split}
 use Rattle.bitset.specs.Bitset.{has, Members, Holds}
-use Rattle.bitset.specs.Laws.{empty}
+use Rattle.bitset.specs.Laws.{nobody-in}
 use Rattle.pairs.specs.Pairs.{codeOf, codeAt, Numbered, kindNumbered, firstOf, lastOf, columnOf, widthOf}
 use Rattle.pairs.specs.Laws.{numbered-stack, numbered-set, numbered-table}
 use Rattle.dependencies.specs.Dependencies.{picked, pickedAt, Picked}
@@ -82,7 +82,7 @@ module _ (whole same b : ℕ) where
   pub picked-from : (rule : Rule) → has (picked rule whole same) b ≡ true
       → ((rule ≡ never) × (has whole b ≡ true)) ⊎ ((rule ≡ apart) × (has same b ≡ true))
   picked-from never h = inl (refl, h)
-  picked-from always h = absurd (true≢false (sym h ∙ empty 0 .0 refl b))
+  picked-from always h = absurd (nobody-in 0 b refl h)
   picked-from apart h = inr (refl, h)
 
 -- ---- The columns in turn

@@ -1,7 +1,7 @@
 -- What the operations on sets make of the predicates that tell their members.
 use Prim.Native.Nat.{ℕ, zero, suc, _+_, _<_}
 use mathlib.Core.Path.{_≡_, refl, sym, subst, _∙_}
-use mathlib.Core.Bool.{true, false, not, _&&_, _||_, true≢false}
+use mathlib.Core.Bool.{true, false, not, _&&_, _||_}
 use mathlib.Core.Logic.{_↔_, _⊎_, inl, inr, ⊎-elim}
 use mathlib.Core.List.{List}
 use native.Mathlib.Omega.{arith}
@@ -11,7 +11,7 @@ use lib.ListN.{getD, set, length, replicate}
 use lib.Seq.{getD-set-same, getD-set-other}
 use Rattle.operations.specs.Laws.Cases.{split, same}
 use Rattle.bitset.specs.Bitset.{has, Members, Holds, Represents}
-use Rattle.bitset.specs.Laws.{empty, in-union, in-rest}
+use Rattle.bitset.specs.Laws.{empty, nobody-in, in-union, in-rest}
 use Rattle.dependencies.specs.Dependencies.{Some, WithOwner}
 
 -- ---- Some number below n
@@ -31,7 +31,7 @@ some-more P n = (⊎-elim old (λ p. (n, omega arith, p)), back)
 -- ---- One set
 
 pub holds-none : (P : ℕ → Type 0) → ((b : ℕ) → P b → ⊥) → Holds 0 P
-holds-none P none b = (λ e. absurd (true≢false (sym e ∙ empty 0 .0 refl b)), λ p. absurd (none b p))
+holds-none P none b = (λ e. absurd (nobody-in 0 b refl e), λ p. absurd (none b p))
 
 pub holds-same : (P Q : ℕ → Type 0) (s : ℕ) → Holds s P → ((b : ℕ) → P b ↔ Q b) → Holds s Q
 holds-same P Q s p e b = (λ h. e b .0 (p b .0 h), λ q. p b .1 (e b .1 q))
@@ -51,7 +51,7 @@ holds-without P s t u p m b = (
 -- A set that is 0 exactly where the predicate tells nobody.
 pub holds-empty : (P : ℕ → Type 0) (s : ℕ) → Holds s P → (eqb s 0 ≡ true) ↔ ((b : ℕ) → P b → ⊥)
 holds-empty P s p = (
-  λ e b q. true≢false (sym (p b .1 q) ∙ empty s .0 (eqb-true s 0 e) b),
+  λ e b q. nobody-in s b (eqb-true s 0 e) (p b .1 q),
   λ none. eq-eqb s 0 (empty s .1 (λ b. split (has s b) (λ (t : has s b ≡ true). absurd (none b (p b .0 t))) (λ (t : has s b ≡ false). t))),
 )
 

@@ -10,12 +10,13 @@ use borrow.Author.Tests.{eqb-true, eq-eqb, ltb-true, lt-ltb, le-ltb}
 use lib.Dec.{eqb, ltb}
 use Rattle.operations.specs.Laws.Cases.{yes, no}
 use Rattle.bitset.specs.Bitset.{has, Holds}
-use Rattle.operations.specs.Operations.{Kind, Stack, Set, Table, push, pop, top, setInsert, setDelete, member, tableInsert, tableDelete, lookup, size, modify, Operation, onStack, onSet, onTable, kindOf, numberOf, keyOf, reduceKey, StoredKey}
+use Rattle.operations.specs.Operations.{Kind, push, pop, top, setInsert, setDelete, member, tableInsert, tableDelete, lookup, size, modify, Operation, onStack, onSet, onTable, kindOf, numberOf, keyOf, reduceKey, StoredKey}
 use Rattle.operations.specs.Laws.Storing.{reduced-below}
 use Rattle.store.specs.Store.{Object, Live, objectOf, Logged}
 use Rattle.store.specs.Layout.{base, decode, word, kindWord, readKind, objectStart, entryStart, entryAt, operationAt, Packed}
 use Rattle.store.specs.Soundness.{EntriesLive, EntriesFit, KeysReduced}
 use Rattle.store.specs.Laws.Lists.{all-each, all-of}
+use Rattle.store.specs.Laws.Objects.{kind-read}
 use Rattle.store.specs.Laws.Reading.{live-below, object-read, kind-below}
 use Rattle.log.specs.Log.{kindBy, EntryFits}
 use Rattle.log.specs.Laws.Checks.{Each}
@@ -51,14 +52,9 @@ kind-written (suc (suc zero)) k e = ap kindWord e
 kind-written (suc (suc (suc zero))) k e = ap kindWord e
 kind-written (suc (suc (suc (suc n)))) k e = absurd (Option·none-ne-some k e)
 
-kind-read : (k : Kind) → readKind (kindWord (some k)) ≡ some k
-kind-read Stack = refl
-kind-read Set = refl
-kind-read Table = refl
-
 object-kind : (w : List ℕ) (o : ℕ) (k : Kind) → ((o < 16) × (word w (objectStart o) ≡ kindWord (some k))) ↔ (objectOf (decode base w) o .kind ≡ some k)
 object-kind w o k = (
-  λ p. ap (λ (x : Object). x .kind) (object-read base w o (p .0)) ∙ ap readKind (p .1) ∙ kind-read k,
+  λ p. ap (λ (x : Object). x .kind) (object-read base w o (p .0)) ∙ ap readKind (p .1) ∙ kind-read (some k),
   λ e.
       let l : o < 16 = kind-below base w o k e in
       (l, kind-written (word w (objectStart o)) k (sym (ap (λ (x : Object). x .kind) (object-read base w o l)) ∙ e)),

@@ -18,7 +18,7 @@ module _ {A : Type 0} where
       ap (λ (n : ℕ). sets (sets (set l i x) (suc i) xs) n ys) e ∙ sets-append (set l i x) (suc i) xs ys
 
   -- As many as stood there.
-  pub sets-seam : (p x y z : List A) → length x ≡ length y → sets (p ++ (x ++ z)) (length p) y ≡ p ++ (y ++ z)
+  sets-seam : (p x y z : List A) → length x ≡ length y → sets (p ++ (x ++ z)) (length p) y ≡ p ++ (y ++ z)
   sets-seam p x y z e =
       let fits : length p + length y ≤ length (p ++ (x ++ z)) = simp length-append (omega arith) in
       sets-eq y (p ++ (x ++ z)) (length p) fits ∙ rw (take-append-seam, drop-append-add p (x ++ z) (length y), drop-at x z (length y) e, append-assoc)

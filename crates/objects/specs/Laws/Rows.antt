@@ -1,20 +1,18 @@
 -- The form of an object's rows, by what is tested: each row, its neighbour and the kind.
-use Prim.Native.Nat.{ℕ, suc, _+_, _≤_, _<_}
+use Prim.Native.Nat.{ℕ, _+_, _≤_, _<_}
 use mathlib.Core.Path.{_≡_, ap, sym, _∙_, subst}
 use mathlib.Core.Logic.{_⊎_, ⊎-elim, _↔_, Iff·trans}
 use mathlib.Core.Option.{some, Option·none-ne-some}
 use mathlib.Core.List.{List, [], _∷_}
-use native.Mathlib.Numerals.{add-one}
 use native.Mathlib.Omega.{arith}
-use lib.ListN.{drop, drop-of-length-le}
-use lib.Seq.{drop-cons}
+use lib.ListN.{drop}
 use Rattle.operations.specs.Operations.{Kind, Stack, Set, Table, Row, reduceKey, All, NoValue, WellFormed}
 use Rattle.operations.specs.Laws.Cases.{all-map}
 use Rattle.operations.specs.Laws.Storing.{reduced-below}
 use Rattle.store.specs.Store.{Object}
 use Rattle.store.specs.Layout.{word, tabulate, base, decode, readKind, objectStart, rowsAt, ObjectPacked}
 use Rattle.store.specs.Soundness.{RowsFormed}
-use Rattle.store.specs.Laws.Lists.{length-tabulate, getD-tabulate}
+use Rattle.store.specs.Laws.Lists.{drop-tabulate, drop-past}
 use Rattle.store.specs.Laws.Words.{all-any}
 use Rattle.store.specs.Laws.Reading.{object-read, kind-below}
 use Rattle.objects.specs.Objects.{Keyed, Formed}
@@ -62,22 +60,17 @@ module _ (n : ℕ) (f : ℕ → Row) where
     keyed-rising 0 (tabulate n f) (all-any (AtLeast 0) (λ r. omega arith) (tabulate n f)),
   )
 
-  here : (i : ℕ) → i < n → drop i (tabulate n f) ≡ f i ∷ drop (suc i) (tabulate n f)
-  here i l =
-      drop-cons (tabulate n f) i (f i) (rw length-tabulate l) ∙ ap (λ (r : Row). r ∷ drop (suc i) (tabulate n f)) (getD-tabulate n f i (f i) l)
-
   pub decides-next : (i least : ℕ) → i < n → least ≤ f i .key → f i .key < 16_777_216 → Decides i least → Decides (i + 1) (f i .key + 1)
   decides-next i least l p q d =
-      rw (add-one i)
-      (λ r. d .0 (subst (Rising least) (sym (here i l)) (p, q, r)), λ k. subst (Rising least) (here i l) (d .1 k) .2)
+      (λ r. d .0 (subst (Rising least) (sym (drop-tabulate n f i l)) (p, q, r)), λ k. subst (Rising least) (drop-tabulate n f i l) (d .1 k) .2)
 
   pub decides-no : (i least : ℕ) → i < n → (f i .key < least) ⊎ (16_777_216 ≤ f i .key) → Decides i least → Keyed (tabulate n f) → ⊥
   decides-no i least l wrong d k =
-      let rising = subst (Rising least) (here i l) (d .1 k) in
+      let rising = subst (Rising least) (drop-tabulate n f i l) (d .1 k) in
       ⊎-elim (λ (low : f i .key < least). omega (arith, rising .0)) (λ (high : 16_777_216 ≤ f i .key). omega (arith, rising .1)) wrong
 
   pub decides-all : (i least : ℕ) → n ≤ i → Decides i least → Keyed (tabulate n f)
-  decides-all i least l d = d .0 (rw (drop-of-length-le (tabulate n f) {i = i} (rw length-tabulate l)) tt)
+  decides-all i least l d = d .0 (rw (drop-past n f i l) tt)
 
 -- ---- By kind
 

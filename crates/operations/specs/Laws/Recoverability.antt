@@ -88,7 +88,7 @@ module _ (X : ObjectType) where
       (ap (log.after X l) (swapped .0) ∙ rest .0, rest .1 ∙ swapped .2, λ p. (sym (swapped .1) ∙ p .0, rest .2 (rw (swapped .0) at (p .1))))
 
   module _ (picked : ℕ → Bool) where
-    all-only : {P Q : Entry → Type 0} → ((x : Entry) → P x → picked (x .transaction) ≡ true → Q x) → (l : log.Log X) → All P l → All Q (only picked l)
+    pub all-only : {P Q : Entry → Type 0} → ((x : Entry) → P x → picked (x .transaction) ≡ true → Q x) → (l : log.Log X) → All P l → All Q (only picked l)
     all-only f [] a = tt
     all-only f (e ∷ l) a =
         split (picked (e .transaction)) (λ (k : picked (e .transaction) ≡ true). rw k (f e (a .0) k, all-only f l (a .1)))

@@ -82,7 +82,7 @@ module _ (k : ℕ) (r : Row) (rs : List Row) where
         modifies = λ v. simp byOrder-less (ap (λ q. r ∷ q) (a .modifies v));
       }
 
-pub sought : (k : ℕ) (rs : List Row) → There k rs ⊎ Absent k rs
+sought : (k : ℕ) (rs : List Row) → There k rs ⊎ Absent k rs
 sought k [] =
     inr (record {
       within = omega arith;

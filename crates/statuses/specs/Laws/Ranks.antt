@@ -11,8 +11,8 @@ use Rattle.bitset.specs.Bitset.{has, Members, Holds}
 use Rattle.bitset.specs.Laws.{no-member}
 use Rattle.operations.specs.Laws.Cases.{split, same}
 use Rattle.store.specs.Store.{Status, absent, active, pseudoCommitted, Store, statusOf}
-use Rattle.store.specs.Layout.{statusWord}
 use Rattle.store.specs.Soundness.{OnceEach, WithoutGaps}
+use Rattle.store.specs.Laws.Statuses.{absent-unranked, active-unranked, same-rank}
 use Rattle.statuses.specs.declared.Ranks.{Ranks}
 use Rattle.statuses.specs.Statuses.{Noted, Downward}
 use Rattle.statuses.specs.Laws.Sets.{one-more, downward}
@@ -85,9 +85,6 @@ module _ (s : Store) where
           fails = seen .fails;
         }
 
-  same-rank : (t rank other : ℕ) → statusOf s t ≡ pseudoCommitted rank → statusOf s t ≡ pseudoCommitted other → rank ≡ other
-  same-rank t rank other e f = omega (arith, ap statusWord (sym e ∙ f))
-
   module _ (n rank : ℕ) (own : statusOf s n ≡ pseudoCommitted rank) where
     -- A rank that was not seen joins.
     module _ (before after : Ranks) (new : has (before .seen) rank ≡ false) (members : Members (after .seen) (λ h. has (before .seen) h || eqb h rank)) where
@@ -95,7 +92,7 @@ module _ (s : Store) where
         given-now : (r : ℕ) → Given (n + 1) r → has (after .seen) r ≡ true
         given-now r (t, l, e) =
             let more = one-more (before .seen) (after .seen) rank members r in
-            same t n (λ q. more .1 (inr (same-rank n r rank (at n t r q e) own))) (λ other. more .1 (inl (known r .1 (t, omega arith, e))))
+            same t n (λ q. more .1 (inr (same-rank r rank (sym (at n t r q e) ∙ own)))) (λ other. more .1 (inl (known r .1 (t, omega arith, e))))
 
         joined : Holds (after .seen) (Given (n + 1))
         joined r = (
@@ -109,7 +106,7 @@ module _ (s : Store) where
 
         -- No earlier transaction has the rank.
         apart : (t r : ℕ) → t < n → statusOf s t ≡ pseudoCommitted r → statusOf s n ≡ pseudoCommitted r → ⊥
-        apart t r l e f = false≢true (sym new ∙ known rank .1 (t, l, e ∙ ap pseudoCommitted (same-rank n r rank f own)))
+        apart t r l e f = false≢true (sym new ∙ known rank .1 (t, l, e ∙ ap pseudoCommitted (same-rank r rank (sym f ∙ own))))
 
         different : Different n → Different (n + 1)
         different earlier t u r lt lu et eu =
@@ -146,9 +143,9 @@ module _ (s : Store) where
 
     pub next : (n : ℕ) (status : Status) (before after : Ranks) → statusOf s n ≡ status → Noted status before after → Seen n before → Seen (n + 1) after
     next n absent before after own noted seen =
-        subst (Seen (n + 1)) (sym noted) (unranked n (λ rank e. omega (arith, ap statusWord (sym own ∙ e))) before seen)
+        subst (Seen (n + 1)) (sym noted) (unranked n (λ rank e. absent-unranked rank (sym own ∙ e)) before seen)
     next n active before after own noted seen =
-        subst (Seen (n + 1)) (sym noted) (unranked n (λ rank e. omega (arith, ap statusWord (sym own ∙ e))) before seen)
+        subst (Seen (n + 1)) (sym noted) (unranked n (λ rank e. active-unranked rank (sym own ∙ e)) before seen)
     next n (pseudoCommitted rank) before after own (inl noted) seen = fresh n rank own before after (noted .1) (noted .2) (noted .3) seen
     next n (pseudoCommitted rank) before after own (inr noted) seen =
         record {

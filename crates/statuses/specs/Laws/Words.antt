@@ -1,6 +1,6 @@
 -- What a status word says.
 use Prim.Native.Nat.{ℕ, zero, suc, _+_, _-_, _<_, _≤_}
-use mathlib.Core.Path.{_≡_, refl, sym, ap, _∙_}
+use mathlib.Core.Path.{_≡_, refl, ap}
 use mathlib.Core.Bool.{true, false, false≢true, _||_}
 use mathlib.Core.Logic.{_↔_, _⊎_, inl, inr}
 use mathlib.Core.List.{List}
@@ -13,6 +13,7 @@ use Rattle.store.specs.Store.{absent, pseudoCommitted, Live, PseudoCommitted}
 use Rattle.store.specs.Layout.{base, decode, statusWord, readStatus, word}
 use Rattle.store.specs.Laws.Encoding.{status-written}
 use Rattle.store.specs.Laws.Reading.{status-read, live-below}
+use Rattle.store.specs.Laws.Statuses.{pseudo-committed-live}
 use Rattle.statuses.specs.declared.Ranks.{Ranks}
 use Rattle.statuses.specs.Statuses.{Noted}
 
@@ -39,7 +40,7 @@ module _ (w : List ℕ) (t : ℕ) (l : t < 64) where
   finished-test = rw (status-read base w t l) (finished-word (word w (1 + t)))
 
 pub finished-below : (w : List ℕ) (t : ℕ) → PseudoCommitted (decode base w) t → t < 64
-finished-below w t p = live-below base w t (λ e. omega (arith, ap statusWord (sym (p .1) ∙ e)))
+finished-below w t p = live-below base w t (pseudo-committed-live (decode base w) t p)
 
 -- ---- Ranks with one word more
 

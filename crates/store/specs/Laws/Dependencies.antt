@@ -13,6 +13,7 @@ use Rattle.operations.specs.Laws.Cases.{split}
 use Rattle.operations.specs.Laws.Objects.{object}
 use Rattle.store.specs.Store.{Logged, onObject}
 use Rattle.store.specs.Dependency.{Any, Follows, Conflict, DependsOn}
+use Rattle.store.specs.Laws.Any.{any-some}
 
 module _ (reduce : ℕ → ℕ) (kind : Kind) (t : ℕ) where
   abbrev X : ObjectType
@@ -84,12 +85,7 @@ module _ (reduce : ℕ → ℕ) (kind : Kind) (t : ℕ) where
 module _ (P : ℕ → Type 0) (a b : ℕ) where
   follows-owner : (log : List Logged) → All (λ (l : Logged). P (l .entry .transaction)) log → Follows (Conflict a b) log → P b
   follows-owner [] all p = absurd p
-  follows-owner (e ∷ l) all (inl p) = subst P (owner l p) (all .0)
-    where
-      owner : (l : List Logged) → Any (Conflict a b e) l → e .entry .transaction ≡ b
-      owner [] q = absurd q
-      owner (x ∷ m) (inl c) = c .1
-      owner (x ∷ m) (inr q) = owner m q
+  follows-owner (e ∷ l) all (inl p) = subst P (any-some (Conflict a b e) l p .1 .1) (all .0)
   follows-owner (e ∷ l) all (inr p) = follows-owner l (all .1) p
 
   pub depended-on : (log : List Logged) → All (λ (l : Logged). P (l .entry .transaction)) log → DependsOn log a b → P b

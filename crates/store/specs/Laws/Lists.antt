@@ -1,11 +1,13 @@
 -- Lists of the first values of a function, by index.
-use Prim.Native.Nat.{ℕ, zero, suc, _≤_, _<_}
-use mathlib.Core.Path.{_≡_, refl, ap, ap₂}
+use Prim.Native.Nat.{ℕ, zero, suc, _+_, _≤_, _<_}
+use mathlib.Core.Path.{_≡_, refl, sym, ap, ap₂, _∙_}
 use mathlib.Core.Logic.{inl, inr}
 use mathlib.Core.List.{List, [], _∷_, _++_}
 use native.Mathlib.Nat.{not-suc-le-zero, zero-lt-suc}
+use native.Mathlib.Numerals.{add-one}
 use native.Mathlib.Omega.{arith}
-use lib.ListN.{length, getD}
+use lib.ListN.{length, getD, drop, drop-of-length-le}
+use lib.Seq.{drop-cons}
 use Rattle.operations.specs.Operations.{All}
 use Rattle.store.specs.Dependency.{Any, Follows}
 use Rattle.store.specs.Layout.{tabulate}
@@ -31,6 +33,15 @@ module _ {A : Type 0} where
   getD-past zero f i d l = refl
   getD-past (suc n) f zero d l = absurd (not-suc-le-zero l)
   getD-past (suc n) f (suc i) d l = getD-past n (λ j. f (suc j)) i d (omega arith)
+
+  -- The values from a place on.
+  pub drop-tabulate : (n : ℕ) (f : ℕ → A) (i : ℕ) → i < n → drop i (tabulate n f) ≡ f i ∷ drop (i + 1) (tabulate n f)
+  drop-tabulate n f i l =
+      drop-cons (tabulate n f) i (f i) (rw length-tabulate l)
+      ∙ ap₂ (λ (x : A) (j : ℕ). x ∷ drop j (tabulate n f)) (getD-tabulate n f i (f i) l) (sym (add-one i))
+
+  pub drop-past : (n : ℕ) (f : ℕ → A) (i : ℕ) → n ≤ i → drop i (tabulate n f) ≡ []
+  drop-past n f i l = drop-of-length-le (tabulate n f) {i = i} (rw length-tabulate l)
 
   pub tabulate-same : (n : ℕ) (f g : ℕ → A) → ((i : ℕ) → i < n → f i ≡ g i) → tabulate n f ≡ tabulate n g
   unfolding tabulate

@@ -51,7 +51,7 @@ module _ (w : List ℕ) (o : ℕ) (packed : ObjectPacked w o) where
 
 -- ---- Written and read
 
-kind-read : (kind : Option Kind) → readKind (kindWord kind) ≡ kind
+pub kind-read : (kind : Option Kind) → readKind (kindWord kind) ≡ kind
 kind-read none = refl
 kind-read (some Stack) = refl
 kind-read (some Set) = refl

@@ -61,7 +61,7 @@ module _ (Edge Edge′ : ℕ → ℕ → Type 0) (Through Through′ : ℕ → T
   way-monotone f g (suc n) (suc m) l a b (inr (c, t, e, w)) = inr (c, g c t, f a c e, way-monotone f g n m (le-of-suc-le-suc l) c b w)
 
 module _ (Edge : ℕ → ℕ → Type 0) where
-  widened : (P Q : ℕ → Type 0) → ((c : ℕ) → P c → Q c) → (n a b : ℕ) → Way Edge P n a b → Way Edge Q n a b
+  pub widened : (P Q : ℕ → Type 0) → ((c : ℕ) → P c → Q c) → (n a b : ℕ) → Way Edge P n a b → Way Edge Q n a b
   widened P Q f n a b w = way-monotone Edge Edge P Q (λ x y e. e) f n n (le-refl n) a b w
 
   -- One step more.
@@ -71,11 +71,12 @@ module _ (Edge : ℕ → ℕ → Type 0) where
   onward P (suc n) a b c (inr (d, q, f, w)) p e = inr (d, q, f, onward P n d b c w p e)
 
   -- Up to the first arrival the end is not passed through.
-  first-arrival : (P : ℕ → Type 0) (n a b : ℕ) → Way Edge P n a b → Way Edge (Except b P) n a b
-  first-arrival P zero a b w = absurd w
-  first-arrival P (suc n) a b (inl e) = inl e
-  first-arrival P (suc n) a b (inr (c, p, e, w)) =
-      same c b (λ (q : c ≡ b). inl (subst (λ (x : ℕ). Edge a x) q e)) (λ (other : c ≡ b → ⊥). inr (c, (p, other), e, first-arrival P n c b w))
+  pub first-arrival : (P Q : ℕ → Type 0) (b : ℕ) → ((c : ℕ) → P c → (c ≡ b → ⊥) → Q c) → (n a : ℕ) → Way Edge P n a b → Way Edge Q n a b
+  first-arrival P Q b others zero a w = absurd w
+  first-arrival P Q b others (suc n) a (inl e) = inl e
+  first-arrival P Q b others (suc n) a (inr (c, p, e, w)) =
+      same c b (λ (q : c ≡ b). inl (subst (λ (x : ℕ). Edge a x) q e))
+      (λ (other : c ≡ b → ⊥). inr (c, others c p other, e, first-arrival P Q b others n c w))
 
   -- A way leaves out c, or does so from its last visit there.
   last-visit : (P : ℕ → Type 0) (c n a b : ℕ) → Way Edge P n a b → Path Edge (Except c P) a b ⊎ Path Edge (Except c P) c b
@@ -126,7 +127,7 @@ module _ (Edge : ℕ → ℕ → Type 0) (Through : ℕ → Type 0) (within : (c
       fewer 63 (Except b Through) (Except b (λ c. c < 64)) (λ (c : ℕ) (t : Except b Through c). (within c (t .0), t .1)) (below 64 b l)
       in
       widened Edge (Except b Through) Through (λ (c : ℕ) (t : Except b Through c). t .0) 64 a b
-      (short Edge 63 (Except b Through) most a b (n, first-arrival Edge Through n a b w))
+      (short Edge 63 (Except b Through) most a b (n, first-arrival Edge Through (Except b Through) b (λ c t other. (t, other)) n a w))
 
   -- So such nodes that lie on no cycle, and each lead to such a node, are none.
   pub none-lead-on : ((c : ℕ) → Through c → (d : ℕ) × Through d × Edge c d) → ((c : ℕ) → Through c → Way Edge Through 64 c c → ⊥)

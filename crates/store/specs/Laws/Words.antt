@@ -53,7 +53,7 @@ module _ (n : ℕ) (ws : List ℕ) where
   pub padded-length : length ws ≤ n → length (padded n ws) ≡ n
   padded-length l = simp (length-append, length-replicate) (omega arith)
 
-  pub padded-word : (i : ℕ) → i < length ws → word (padded n ws) i ≡ word ws i
+  padded-word : (i : ℕ) → i < length ws → word (padded n ws) i ≡ word ws i
   padded-word i l = List·getD-append ws (replicate (n - length ws) 0) 0 i l
 
   pub padded-past : (i : ℕ) → length ws ≤ i → word (padded n ws) i ≡ 0

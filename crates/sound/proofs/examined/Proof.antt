@@ -1,4 +1,4 @@
--- `sound::sound`: each clause that fails refuses the book, and where all hold it is sound.
+-- `sound::examined`: each clause that fails refuses the book, and where all hold it is sound.
 use mathlib.Core.Path.{_≡_}
 use mathlib.Core.Bool.{true}
 use mathlib.Core.Logic.{_↔_, Iff·trans}
@@ -7,9 +7,9 @@ use borrow.Author.Tests.{not-true, not-false}
 use Rattle.store.specs.Store.{Store}
 use Rattle.store.specs.Layout.{base, decode, Packed}
 use Rattle.store.specs.Soundness.{Sound, EntriesLive, EntriesFit, KeysReduced, Acyclic, Dependent}
-use Rattle.sound.specs.Laws.{refused, last, acyclic-said, dependent-said}
-use Rattle.sound.proofs.sound.Statement.{statement}
-use Rattle.sound.proofs.sound.Tie as tie
+use Rattle.sound.specs.Laws.{unsound, last, acyclic-said, dependent-said}
+use Rattle.sound.proofs.examined.Statement.{statement}
+use Rattle.sound.proofs.examined.Tie as tie
 
 -- ---- What holds past each test
 
@@ -31,38 +31,41 @@ store c = decode base (statuses c .before .before .before .before .before .befor
 acyclic : (c : tie.After-acyclic) → (c .acyclic .result ≡ true) ↔ Acyclic (store (c .before .before .before))
 acyclic c =
     let past = c .before .before .before in
-    Iff·trans (c .acyclic .ensures) (acyclic-said (store past) (past .before .before .conflicts .result .dependencies) (statuses past .statuses .result .finished) (past .before .before .conflicts .ensures .1) (statuses past .statuses .ensures .1))
+    Iff·trans (c .acyclic .ensures)
+    (acyclic-said (store past) (past .before .before .conflicts .result .dependencies) (statuses past .statuses .result .finished)
+    (past .before .before .conflicts .ensures .1) (statuses past .statuses .ensures .1))
 
 dependent : (c : tie.After-dependent) → (c .dependent .result ≡ true) ↔ Dependent (store (c .before .before .before .before .before .before))
 dependent c =
     let past = c .before .before .before .before .before .before in
     Iff·trans (c .dependent .ensures)
-    (dependent-said (store past) (past .before .before .conflicts .result .dependencies) (statuses past .statuses .result .finished) (past .before .before .conflicts .ensures .1) (statuses past .statuses .ensures .1) (fit (past .before .before .before .before .before) .0))
+    (dependent-said (store past) (past .before .before .conflicts .result .dependencies) (statuses past .statuses .result .finished)
+    (past .before .before .conflicts .ensures .1) (statuses past .statuses .ensures .1) (fit (past .before .before .before .before .before) .0))
 
 -- ---- Ways out, and what the checks ask
 
 unpacked : tie.Need-returns
-unpacked c = refused (c .before .packed .ensures) (not-true _ (c .if1 .taken)) (λ (s : Sound base _). s .packed)
+unpacked c = unsound (c .before .packed .ensures) (not-true _ (c .if1 .taken)) (λ (s : Sound base _). s .packed)
 
 formed-requires : tie.Need-formed-requires
 formed-requires c κs = let p = is-packed c in (p .words, p .objects)
 
 unformed : tie.Need-returns-2
-unformed c = refused (c .before .formed .ensures) (not-true _ (c .if2 .taken)) (λ (s : Sound base _). s .store .rows)
+unformed c = unsound (c .before .formed .ensures) (not-true _ (c .if2 .taken)) (λ (s : Sound base _). s .store .rows)
 
 statuses-requires : tie.Need-statuses-requires
 statuses-requires c κs = is-packed (c .before .before) .words
 
 unranked : tie.Need-returns-3
 unranked c =
-    refused (c .before .before .statuses .ensures .2) (not-true _ (c .if3 .taken)) (λ (s : Sound base _). (s .store .once, s .store .gapless))
+    unsound (c .before .before .statuses .ensures .2) (not-true _ (c .if3 .taken)) (λ (s : Sound base _). (s .store .once, s .store .gapless))
 
 fits-requires : tie.Need-fits-requires
 fits-requires c κs = (is-packed (c .before .before .before .before .before), c .before .before .statuses .ensures .0)
 
 unfit : tie.Need-returns-4
 unfit c =
-    refused (c .before .fits2 .ensures) (not-true _ (c .if4 .taken))
+    unsound (c .before .fits2 .ensures) (not-true _ (c .if4 .taken))
     (λ (s : Sound base _). (s .store .live, s .store .fits, s .store .reduced))
 
 answered-requires : tie.Need-answered-requires
@@ -70,7 +73,7 @@ answered-requires c κs = (is-packed (c .before .before .before .before .before 
 
 unanswered : tie.Need-returns-5
 unanswered c =
-    refused (c .before .answered .ensures) (not-true _ (c .if5 .taken)) (λ (s : Sound base _). (s .store .room, s .store .answered))
+    unsound (c .before .answered .ensures) (not-true _ (c .if5 .taken)) (λ (s : Sound base _). (s .store .room, s .store .answered))
 
 conflicts-requires : tie.Need-conflicts-requires
 conflicts-requires c κs =
@@ -79,10 +82,10 @@ conflicts-requires c κs =
 
 unrecoverable : tie.Need-returns-6
 unrecoverable c =
-    refused (c .before .before .conflicts .ensures .0) (not-true _ (c .if6 .taken)) (λ (s : Sound base _). s .store .recoverable)
+    unsound (c .before .before .conflicts .ensures .0) (not-true _ (c .if6 .taken)) (λ (s : Sound base _). s .store .recoverable)
 
 cyclic : tie.Need-returns-7
-cyclic c = refused (acyclic (c .before)) (not-true _ (c .if7 .taken)) (λ (s : Sound base _). s .store .acyclic)
+cyclic c = unsound (acyclic (c .before)) (not-true _ (c .if7 .taken)) (λ (s : Sound base _). s .store .acyclic)
 
 whole : tie.Need-returns-8
 whole c =
@@ -93,28 +96,30 @@ whole c =
     let summary = statuses past in
     let formed = summary .before .before in
     let answers = answered .answered .ensures .0 (not-false _ (found .before .if5 .left)) in
-    let ranks = summary .statuses .ensures .2 .0 (not-false _ (answered .before .before .before .if3 .left)) in
-    last (dependent c)
-    (λ d. record {
-      packed = is-packed (formed .before);
-      store = record {
-        rows = formed .formed .ensures .0 (not-false _ (summary .before .if2 .left));
-        live = f .0;
-        fits = f .1;
-        reduced = f .2;
-        recoverable = found .conflicts .ensures .0 .0 (not-false _ (past .if6 .left));
-        answered = answers .1;
-        room = answers .0;
-        once = ranks .0;
-        gapless = ranks .1;
-        acyclic = acyclic (c .before .before .before) .0 (not-false _ (c .before .before .if7 .left));
-        dependent = d;
-      };
-    })
-    (λ (s : Sound base _). s .store .dependent)
+    let ranks = summary .statuses .ensures .2 .0 (not-false _ (answered .before .before .before .if3 .left)) in (
+      last (dependent c)
+          (λ d. record {
+            packed = is-packed (formed .before);
+            store = record {
+              rows = formed .formed .ensures .0 (not-false _ (summary .before .if2 .left));
+              live = f .0;
+              fits = f .1;
+              reduced = f .2;
+              recoverable = found .conflicts .ensures .0 .0 (not-false _ (past .if6 .left));
+              answered = answers .1;
+              room = answers .0;
+              once = ranks .0;
+              gapless = ranks .1;
+              acyclic = acyclic (c .before .before .before) .0 (not-false _ (c .before .before .if7 .left));
+              dependent = d;
+            };
+          })
+          (λ (s : Sound base _). s .store .dependent),
+      λ e. (summary .statuses .ensures .1, found .conflicts .ensures .1),
+    )
 
-pub sound-spec : {M : Type 1} → statement M
-sound-spec =
+pub examined-spec : {M : Type 1} → statement M
+examined-spec =
     tie.close
     (tie.spec
     (λ c κs. search needs)

@@ -1,0 +1,130 @@
+-- For a request: the rows that an object uses, counted, and the rows that replay of its entries reaches.
+use Prim.Native.Nat.{ℕ, _+_, _≤_, _<_}
+use mathlib.Core.Path.{_≡_, refl, sym, ap, _∙_}
+use mathlib.Core.Bool.{cond}
+use mathlib.Core.Option.{some}
+use mathlib.Core.List.{List, [], _∷_}
+use native.Mathlib.Omega.{arith}
+use lib.ListN.{length}
+use Rattle.operations.specs.Operations as model
+use Rattle.operations.specs.declared.Operation.{Operation}
+use Rattle.operations.specs.Stored.{operationOf}
+use Rattle.operations.specs.Log.{Entry, after}
+use Rattle.operations.specs.Laws.Objects.{object}
+use Rattle.replay.specs.Replay.{rowsOf, nextOf, replyOf, replyBy}
+use Rattle.store.specs.Store.{objectOf, onObject}
+use Rattle.store.specs.Layout.{word, decode, entryStart, operationAt, entryAt, objectStart, rowsAt, adds, additions, Packed, base}
+use Rattle.store.specs.Soundness.{Room}
+use Rattle.store.specs.Laws.Capacity.{additions-first}
+use Rattle.answers.specs.Answers.{entriesFrom, replayed, rowsNeeded}
+use Rattle.answers.specs.Laws.Entries.{entries-own, entries-other, entries-end, EntryRead, needs-rows, needed-few}
+use Rattle.answers.specs.Laws.Replay.{next-named, next-grows, row-count}
+use Rattle.answers.specs.Laws.Whole.{rows-read}
+
+-- Counted up to entry i: with what the entries from there on may need, it is all that the object uses.
+pub record Counting (w : List ℕ) (o i used : ℕ) : Type 0 where
+  pub within : i ≤ word w 0
+  pub bounded : used ≤ 64 + i
+  pub left : used + additions (entriesFrom w o i) ≡ base .used (decode base w) o
+
+-- Replayed up to entry i: serving the entries from there on reaches the rows that serving all reaches, and there is room for what they may need.
+pub record Carrying (w : List ℕ) (o i : ℕ) (rows : List (List ℕ)) (count : ℕ) : Type 0 where
+  pub within : i ≤ word w 0
+  pub room : count + additions (entriesFrom w o i) ≤ 64
+  pub left : replayed (entriesFrom w o i) (rowsOf rows count) ≡ replayed (entriesFrom w o 0) (rowsAt w o)
+
+-- ---- At the first entry
+
+module _ (w : List ℕ) (packed : Packed base w) (o : ℕ) (l : o < 16) (count : ℕ) (e : count ≡ word w (objectStart o + 1)) where
+  all-rows : count ≡ length (objectOf (decode base w) o .rows)
+  all-rows = e ∙ sym (row-count w o) ∙ ap length (sym (rows-read w o l))
+
+  pub count-start : Counting w o 0 count
+  count-start =
+      record {
+        within = omega arith;
+        bounded = omega (arith, packed .objects o l .rows);
+        left = ap (λ (n : ℕ). n + additions (entriesFrom w o 0)) all-rows;
+      }
+
+  pub carry-start : (rows : List (List ℕ)) → rowsOf rows (word w (objectStart o + 1)) ≡ rowsAt w o → Room base (decode base w) → Carrying w o 0 rows count
+  carry-start rows holds room =
+      record {
+        within = omega arith;
+        room = omega (arith, all-rows, room o);
+        left = ap (replayed (entriesFrom w o 0)) (ap (rowsOf rows) e ∙ holds);
+      }
+
+-- ---- Past an entry of another object
+
+module _ (w : List ℕ) (o i : ℕ) (l : i < word w 0) (other : word w (entryStart i + 1) ≡ o → ⊥) where
+  pub count-past : (used : ℕ) → Counting w o i used → Counting w o (i + 1) used
+  count-past used s =
+      record { within = omega arith; bounded = omega (arith, s .bounded); left = rw (← entries-other w o i l other) (s .left) }
+
+  pub carry-past : (rows : List (List ℕ)) (count : ℕ) → Carrying w o i rows count → Carrying w o (i + 1) rows count
+  carry-past rows count s =
+      record { within = omega arith; room = rw (← entries-other w o i l other) (s .room); left = rw (← entries-other w o i l other) (s .left) }
+
+-- ---- At an entry of the object
+
+module _ {w : List ℕ} {i : ℕ} {operation : Operation} (at : EntryRead w i operation) (o : ℕ) (own : word w (entryStart i + 1) ≡ o) where
+  here : entriesFrom w o i ≡ entryAt w i .entry ∷ entriesFrom w o (i + 1)
+  here = entries-own w o i (at .inside) own
+
+  counted-here : additions (entriesFrom w o i) ≡ cond (adds (operationAt w i)) 1 0 + additions (entriesFrom w o (i + 1))
+  counted-here = ap additions here ∙ additions-first (entryAt w i .entry) (entriesFrom w o (i + 1))
+
+  pub count-own : (used n : ℕ) → Counting w o i used → n ≡ rowsNeeded (operation .number) → Counting w o (i + 1) (used + n)
+  count-own used n s e =
+      record {
+        within = omega (arith, at .inside);
+        bounded = omega (arith, s .bounded, needed-few (operation .number));
+        left = omega (arith, needs-rows at n e, counted-here, s .left);
+      }
+
+  module _ (rows : List (List ℕ)) (count : ℕ) (s : Carrying w o i rows count) where
+    next-room : length (nextOf operation (rowsOf rows count)) + additions (entriesFrom w o (i + 1)) ≤ 64
+    next-room = omega (arith, s .room, counted-here, next-grows at rows count)
+
+    pub next-fits : (count ≤ 64) × (length (nextOf operation (rowsOf rows count)) ≤ 64)
+    next-fits = (omega (arith, s .room), omega (arith, next-room))
+
+    pub carry-own : (copy : List (List ℕ)) (newCount : ℕ)
+        → rowsOf copy (length (nextOf operation (rowsOf rows count))) ≡ nextOf operation (rowsOf rows count)
+        → newCount ≡ length (nextOf operation (rowsOf rows count)) → Carrying w o (i + 1) copy newCount
+    carry-own copy newCount holds counted =
+        let rs : rowsOf copy newCount ≡ model.next (operationAt w i) (rowsOf rows count) =
+        ap (rowsOf copy) counted ∙ holds ∙ next-named at (rowsOf rows count) in
+        record {
+          within = omega (arith, at .inside);
+          room = omega (arith, counted, next-room);
+          left = ap (replayed (entriesFrom w o (i + 1))) rs ∙ ap (λ l. replayed l (rowsOf rows count)) (sym here) ∙ s .left;
+        }
+
+-- ---- At the end
+
+module _ (w : List ℕ) (o i : ℕ) (l : word w 0 ≤ i) where
+  pub count-end : (used : ℕ) → Counting w o i used → used ≡ base .used (decode base w) o
+  count-end used s = omega (arith, ap additions (entries-end w o i l), s .left)
+
+  pub carry-end : (rows : List (List ℕ)) (count : ℕ) → Carrying w o i rows count
+      → (count ≤ 64) × (rowsOf rows count ≡ replayed (entriesFrom w o 0) (rowsAt w o))
+  carry-end rows count s = (omega (arith, s .room), ap (λ l. replayed l (rowsOf rows count)) (sym (entries-end w o i l)) ∙ s .left)
+
+-- ---- The answer of the model
+
+module _ (kind : model.Kind) where
+  replayed-after : (l : List (Entry model.Operation model.Reply)) (rs : List model.Row) → replayed l rs ≡ after (object model.reduceKey kind) l rs
+  replayed-after [] rs = refl
+  replayed-after (e ∷ l) rs = replayed-after l (model.next (e .operation) rs)
+
+-- What replay gives the operation that the words name is what the model answers to it.
+pub answer-to : (w : List ℕ) (o : ℕ) → o < 16 → (operation : Operation) (requested : model.Operation) → operationOf operation ≡ some requested
+    → replyOf operation (replayed (entriesFrom w o 0) (rowsAt w o))
+    ≡ model.reply requested (after (object model.reduceKey (model.kindOf requested)) (onObject o (decode base w .log)) (objectOf (decode base w) o .rows))
+answer-to w o l operation requested e =
+    ap (λ q. replyBy q (replayed (entriesFrom w o 0) (rowsAt w o))) e
+    ∙ ap (model.reply requested)
+    (replayed-after (model.kindOf requested) (entriesFrom w o 0) (rowsAt w o)
+    ∙ ap (after (object model.reduceKey (model.kindOf requested)) (entriesFrom w o 0)) (sym (rows-read w o l)))

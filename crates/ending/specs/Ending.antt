@@ -1,0 +1,21 @@
+-- A book of which the dependencies are known, and what book, list and count are when transactions have ended.
+use Prim.Native.Nat.{ℕ}
+use mathlib.Core.Path.{_≡_}
+use mathlib.Core.List.{List, _++_}
+use lib.ListN.{length, drop}
+use Rattle.bitset.specs.Bitset.{Represents}
+use Rattle.store.specs.Dependency.{DependsOn}
+use Rattle.store.specs.Layout.{Packed, encode, decode, base}
+use Rattle.protocol.specs.Ending.{Settlement}
+use Rattle.protocol.specs.Terms.{Unsettled}
+
+-- The sets are those of the book's dependencies; all else is sound, but that somebody may be ready.
+pub record Tracked (w sets : List ℕ) : Type 0 where
+  pub packed : Packed base w
+  pub unsettled : Unsettled base (decode base w)
+  pub edges : Represents sets (DependsOn (decode base w .log))
+
+-- The book holds the store, those that committed stand at the list's front, the rest of which keeps its bytes, and the count is their number.
+abbrev pub Concluded : Settlement → List ℕ → List ℕ → List ℕ → ℕ → Type 0
+Concluded r list book after count =
+    (book ≡ encode base (r .store)) × (after ≡ r .committed ++ drop (length (r .committed)) list) × (count ≡ length (r .committed))

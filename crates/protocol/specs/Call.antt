@@ -1,0 +1,46 @@
+-- A call as a value, with any arguments, and what serving it leaves: the definitions that the contracts of the calls cite.
+use Prim.Native.Nat.{ℕ}
+use mathlib.Core.List.{List, []}
+use Rattle.store.specs.Layout.{Format, base}
+use Rattle.store.specs.Decisions.{whetherSound}
+use Rattle.store.specs.Soundness.{Sound}
+use Rattle.protocol.specs.Replies.{Served}
+use Rattle.protocol.specs.Calls as calls
+
+pub data Call : Type 0 where
+  setUp : (kinds : List ℕ) → Call
+  begin : (transaction : ℕ) → Call
+  operate : (transaction object operation key value : ℕ) → Call
+  finish cancel : (transaction : ℕ) (list : List ℕ) → Call
+  -- with its twin
+  contents : (object : ℕ) → Call
+
+abbrev pub step : (format : Format) → ((w : List ℕ) → Dec (Sound format w)) → Call → List ℕ → Served
+step format whetherSound (setUp kinds) w = calls.setUp format w kinds
+step format whetherSound (begin t) w = calls.begin format whetherSound w t
+step format whetherSound (operate t o number k v) w = calls.operate format whetherSound w t o number k v
+step format whetherSound (finish t list) w = calls.finish format whetherSound w t list
+step format whetherSound (cancel t list) w = calls.cancel format whetherSound w t list
+step format whetherSound (contents o) w = calls.contents format whetherSound w o
+
+-- The desk of 01.
+abbrev pub desk : Call → List ℕ → Served
+desk = step base whetherSound
+
+-- The number of the first reason that applies to a call; 0 where none does.
+abbrev pub reasonOf : Call → List ℕ → ℕ
+reasonOf (setUp kinds) w = calls.setUpReason base w kinds
+reasonOf (begin t) w = calls.beginReason base whetherSound w t
+reasonOf (operate t o number k v) w = calls.operateReason base whetherSound w t o number k v
+reasonOf (finish t list) w = calls.endReason base whetherSound w t list
+reasonOf (cancel t list) w = calls.endReason base whetherSound w t list
+reasonOf (contents o) w = calls.contentsReason base whetherSound w o
+
+-- The list lent to a call, empty where it takes none.
+abbrev pub listOf : Call → List ℕ
+listOf (setUp kinds) = []
+listOf (begin t) = []
+listOf (operate t o number k v) = []
+listOf (finish t list) = list
+listOf (cancel t list) = list
+listOf (contents o) = []

@@ -1,0 +1,14 @@
+pub mod Reasons
+pub mod Unsettled
+pub mod Ranks
+pub mod Carrying
+pub mod Ending
+pub mod Settling
+pub mod Blocking
+pub mod Detours
+pub mod Keeping
+pub mod Kept
+pub mod Protocol
+pub mod Commits
+pub mod Concluding
+pub mod Leaving

@@ -1,0 +1,8 @@
+pub mod Replies
+pub mod Ending
+pub mod Calls
+pub mod Call
+pub mod Terms
+pub mod WrongDesks
+pub mod Laws
+pub mod Theorems

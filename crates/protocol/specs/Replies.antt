@@ -1,0 +1,36 @@
+-- What a call replies and hands back.
+use Prim.Native.Nat.{ℕ}
+use mathlib.Core.List.{List}
+use Rattle.operations.specs.Operations.{Reply}
+
+-- Document 01's replies, in its words.
+pub data Response : Type 0 where
+  ok : Response
+  -- an operation's answer, code and value
+  answered : Reply → Response
+  -- the owner of the entry that forces the wait
+  wait : (owner : ℕ) → Response
+  finished : Response
+  -- how many the list names
+  committed circle cancelled : (count : ℕ) → Response
+  -- by the twin of contents: how many rows
+  counted : (rows : ℕ) → Response
+  -- the number of the reason
+  refused : (reason : ℕ) → Response
+
+-- The reply, the bytes of the lent list afterwards, and the words of the part of the book handed back; empty where the call has none.
+pub record Outcome : Type 0 where
+  pub reply : Response
+  pub list : List ℕ
+  pub rows : List ℕ
+
+abbrev pub outcome : Response → List ℕ → List ℕ → Outcome
+outcome reply list rows = record { reply = reply; list = list; rows = rows }
+
+-- All that a call leaves: every word of the book, and its outcome.
+pub record Served : Type 0 where
+  pub book : List ℕ
+  pub outcome : Outcome
+
+abbrev pub served : List ℕ → Outcome → Served
+served book out = record { book = book; outcome = out }

@@ -1,0 +1,278 @@
+-- Each operation is answered, told to wait, ordered behind another, finished, cancelled for a circle or committed exactly where document 000's
+-- recoverability and commit protocol (sections 4.2.1 and 4.3), as 01 fixes them, says so: of the definitions in `Calls` and `Ending`.
+use Prim.Native.Nat.{ℕ, _+_, _*_, _<_, _≤_}
+use mathlib.Core.Path.{_≡_, ap}
+use mathlib.Core.Bool.{true, false}
+use mathlib.Core.Logic.{_↔_, _⊎_, Iff·trans}
+use mathlib.Core.Option.{some}
+use mathlib.Core.List.{List, [], _∷_, _++_, map}
+use lib.ListN.{length, replicate, take, drop}
+use Rattle.operations.specs.Operations.{Kind, Operation, Reply, All, kindOf, reply, reduceKey}
+use Rattle.operations.specs.PairRules.{recoverable, commutes}
+use Rattle.operations.specs.Log.{Entry, after}
+use Rattle.operations.specs.Laws.Objects.{object}
+use Rattle.store.specs.Store.{absent, active, pseudoCommitted, Logged, Store, statusOf, Active, PseudoCommitted, pseudoCommittedCount, objectOf, onObject}
+use Rattle.store.specs.Dependency.{Any, DependsOn, Ready, Path, OnCycle}
+use Rattle.store.specs.Layout.{decode, objectStart, readKind, joined, rowWords, Representable, base}
+use Rattle.store.specs.Steps.{without, withStatus}
+use Rattle.store.specs.Soundness.{Sound}
+use Rattle.store.specs.Decisions.{whetherSound}
+use Rattle.store.specs.Theorems.{representable, none-left}
+use Rattle.protocol.specs.Replies.{Served, ok, answered, wait, finished, committed, circle, cancelled, counted, refused}
+use Rattle.protocol.specs.Ending.{ended, commit, Settlement, settledAll}
+use Rattle.protocol.specs.Calls.{setUpReason, setUp, beginReason, begin, request, operateReason, operate, endReason, finish, cancel, contentsReason, contents}
+use Rattle.protocol.specs.Call.{Call, desk, reasonOf, listOf}
+use Rattle.protocol.specs.Terms.{SetUpAccepted, BeginAccepted, OperateAccepted, EndAccepted, ContentsAccepted, Unsettled, LowestReady, Places, Earliest, inOrder, withoutAll, Distinct}
+use Rattle.protocol.specs.Laws.Reasons.{set-up-accepted, set-up-accepts, begin-accepted, begin-accepts, operate-accepted, operate-accepts, end-accepted, end-accepts, contents-accepted, contents-accepts}
+use Rattle.protocol.specs.Laws.Settling.{lowest-found, none-ready, settled-end, settled-step}
+use Rattle.protocol.specs.Laws.Protocol as protocol
+use Rattle.protocol.specs.Laws.Commits as commits
+use Rattle.protocol.specs.Laws.Concluding as concluding
+use Rattle.protocol.specs.Laws.Concluding.{Concluded}
+use Rattle.protocol.specs.Laws.Kept as kept
+use Rattle.protocol.specs.Laws.Leaving as leaving
+
+-- ---- Reasons for saying no
+
+-- A call is refused exactly where a reason applies, with the first one's number,
+pub refused-exactly : (call : Call) (w : List ℕ) (n : ℕ) → (desk call w .outcome .reply ≡ refused n) ↔ ((reasonOf call w ≡ n) × (n ≡ 0 → ⊥))
+refused-exactly = leaving.refused-exactly
+
+-- and leaves book and list as they are, with an empty part handed back.
+pub refused-untouched : (call : Call) (w : List ℕ) (n : ℕ) → desk call w .outcome .reply ≡ refused n
+    → (desk call w .book ≡ w) × (desk call w .outcome .list ≡ listOf call) × (desk call w .outcome .rows ≡ [])
+refused-untouched = leaving.refused-untouched
+
+-- No reason applies exactly where a call may be served: the records say so clause by clause.
+pub set-up-may : (w kinds : List ℕ) → (setUpReason base w kinds ≡ 0) ↔ SetUpAccepted w kinds
+set-up-may w kinds = (set-up-accepted base w kinds, set-up-accepts base w kinds)
+
+pub begin-may : (w : List ℕ) (t : ℕ) → (beginReason base whetherSound w t ≡ 0) ↔ BeginAccepted base w t
+begin-may w t = (begin-accepted base whetherSound w t, begin-accepts base whetherSound w t)
+
+pub operate-may : (w : List ℕ) (t o number k v : ℕ) → (operateReason base whetherSound w t o number k v ≡ 0) ↔ OperateAccepted base w t o number k v
+operate-may w t o number k v = (operate-accepted base whetherSound w t o number k v, operate-accepts base whetherSound w t o number k v)
+
+pub end-may : (w : List ℕ) (t : ℕ) (list : List ℕ) → (endReason base whetherSound w t list ≡ 0) ↔ EndAccepted base w t list
+end-may w t list = (end-accepted base whetherSound w t list, end-accepts base whetherSound w t list)
+
+pub contents-may : (w : List ℕ) (o : ℕ) → (contentsReason base whetherSound w o ≡ 0) ↔ ContentsAccepted base w o
+contents-may w o = (contents-accepted base whetherSound w o, contents-accepts base whetherSound w o)
+
+-- ---- Set up, begin and contents
+
+-- Accepted, set up leaves an empty book of the kinds given, over any contents;
+pub set-up-leaves : (w kinds : List ℕ) → setUpReason base w kinds ≡ 0
+    → (setUp base w kinds .outcome .reply ≡ ok)
+    × (decode base (setUp base w kinds .book)
+    ≡ record { statuses = replicate 64 absent; objects = map (λ k. record { kind = readKind k; rows = [] }) kinds; log = [] })
+set-up-leaves = leaving.set-up-leaves
+
+-- begin leaves the transaction active, and all else as it was;
+pub begin-leaves : (w : List ℕ) (t : ℕ) → beginReason base whetherSound w t ≡ 0
+    → (begin base whetherSound w t .outcome .reply ≡ ok) × (decode base (begin base whetherSound w t .book) ≡ withStatus t active (decode base w))
+begin-leaves = leaving.begin-leaves
+
+-- contents counts the object's rows, and hands them back, two words each, as that part of the book itself.
+pub contents-leaves : (w : List ℕ) (o : ℕ) → contentsReason base whetherSound w o ≡ 0
+    → let r = contents base whetherSound w o in
+    let rows = objectOf (decode base w) o .rows in
+    (r .outcome .reply ≡ counted (length rows)) × (r .book ≡ w) × (r .outcome .rows ≡ joined rowWords rows)
+    × (r .outcome .rows ≡ take (2 * length rows) (drop (objectStart o + 2) w))
+contents-leaves = leaving.contents-leaves
+
+-- ---- Operate
+
+module _ (w : List ℕ) (t o number k v : ℕ) (accepted : operateReason base whetherSound w t o number k v ≡ 0) where
+  abbrev s : Store
+  s = decode base w
+
+  abbrev requested : Operation
+  requested = request base number k v
+
+  abbrev operated : Served
+  operated = operate base whetherSound w t o number k v
+
+  -- It is answered exactly where it is recoverable against every entry of another transaction on the object,
+  pub operate-answered-exactly : ((a : Reply) × (operated .outcome .reply ≡ answered a))
+      ↔ All (λ (e : Entry Operation Reply). (e .transaction ≡ t → ⊥) → recoverable requested (e .operation) ≡ true) (onObject o (s .log))
+  operate-answered-exactly = protocol.answered-exactly w t o number k v accepted
+
+  -- waits for the owner of the earliest that it is not recoverable against,
+  pub operate-waits-exactly : (owner : ℕ) → (operated .outcome .reply ≡ wait owner) ↔ Earliest t requested owner (onObject o (s .log))
+  operate-waits-exactly = protocol.waits-exactly w t o number k v accepted
+
+  -- and does one of the two; waiting, it changes no word.
+  pub operate-either : ((a : Reply) × (operated .outcome .reply ≡ answered a))
+      ⊎ ((owner : ℕ) × (operated .outcome .reply ≡ wait owner) × (operated .book ≡ w))
+  operate-either = protocol.answered-or-waits w t o number k v accepted
+
+  -- The answer is the reply after the object's rows and its entries in order, and the request stands last in the log with it.
+  pub operate-replayed : (a : Reply) → operated .outcome .reply ≡ answered a
+      → (a ≡ reply requested (after (object reduceKey (kindOf requested)) (onObject o (s .log)) (objectOf s o .rows)))
+      × (decode base (operated .book)
+      ≡ record {
+        statuses = s .statuses;
+        objects = s .objects;
+        log = s .log ++ (record { object = o; entry = record { transaction = t; operation = requested; answer = a } } ∷ []);
+      })
+  operate-replayed a said = (protocol.replayed w t o number k v accepted a said, protocol.entered-last w t o number k v accepted a said)
+
+  -- Answered, it orders its transaction behind the owners of entries on the object that it does not commute with, and no other behind anyone.
+  pub ordered-behind : (a : Reply) → operated .outcome .reply ≡ answered a → (x b : ℕ)
+      → DependsOn (decode base (operated .book) .log) x b
+      ↔ (DependsOn (s .log) x b ⊎ ((x ≡ t) × (x ≡ b → ⊥)
+      × Any (λ (l : Logged). (l .entry .transaction ≡ b) × (l .object ≡ o) × (commutes requested (l .entry .operation) ≡ false)) (s .log)))
+  ordered-behind = protocol.ordered w t o number k v accepted
+
+-- A transaction depends on another exactly where two places of the log say so; d stands for entries past its end.
+pub depends-exactly : (d : Logged) (log : List Logged) (a b : ℕ) → DependsOn log a b ↔ ((a ≡ b → ⊥) × Places d log a b)
+depends-exactly = protocol.depends-places
+
+-- ---- Finish
+
+module _ (w : List ℕ) (t : ℕ) (list : List ℕ) (accepted : endReason base whetherSound w t list ≡ 0) where
+  abbrev before : Store
+  before = decode base w
+
+  abbrev ending : Served
+  ending = finish base whetherSound w t list
+
+  -- It is cancelled for a circle exactly where it lies on one, of any length, whose other members are all pseudo-committed;
+  pub finish-circle : ((n : ℕ) × (ending .outcome .reply ≡ circle n)) ↔ Path (DependsOn (before .log)) (PseudoCommitted before) t t
+  finish-circle = protocol.finishes-circle w t list accepted
+
+  -- that is where some pseudo-committed one is both among those that it depends on, by ways through such, and among those that depend on it;
+  pub finish-circle-shared : ((n : ℕ) × (ending .outcome .reply ≡ circle n))
+      ↔ ((u : ℕ) × PseudoCommitted before u × Path (DependsOn (before .log)) (PseudoCommitted before) t u × Path (DependsOn (before .log)) (PseudoCommitted before) u t)
+  finish-circle-shared = Iff·trans finish-circle (protocol.circle-shared (before .log) (PseudoCommitted before) t)
+
+  -- it commits exactly where it depends on nobody;
+  pub finish-committed : ((n : ℕ) × (ending .outcome .reply ≡ committed n)) ↔ Ready (before .log) t
+  finish-committed = protocol.finishes-committed w t list accepted
+
+  -- it is pseudo-committed exactly where neither is so;
+  pub finish-finished : (ending .outcome .reply ≡ finished) ↔ ((OnCycle before t → ⊥) × ((u : ℕ) × DependsOn (before .log) t u))
+  finish-finished = protocol.finishes-finished w t list accepted
+
+  -- and there is no fourth reply. Cancel has one.
+  pub finish-either : ((n : ℕ) × (ending .outcome .reply ≡ circle n)) ⊎ ((n : ℕ) × (ending .outcome .reply ≡ committed n)) ⊎ (ending .outcome .reply ≡ finished)
+  finish-either = protocol.finishes-so w t list accepted
+
+  pub cancel-cancelled : (n : ℕ) × (cancel base whetherSound w t list .outcome .reply ≡ cancelled n)
+  cancel-cancelled = protocol.cancels-so w t list accepted
+
+  -- Pseudo-committed, it is last in the order of finishing, and nobody commits.
+  pub finish-ranked : ending .outcome .reply ≡ finished
+      → (decode base (ending .book) ≡ withStatus t (pseudoCommitted (pseudoCommittedCount before)) before) × (ending .outcome .list ≡ list)
+  finish-ranked = protocol.pseudo-commits w t list accepted
+
+-- ---- Who commits then
+
+-- Of a store in which transactions may be ready, as one that has ended leaves it.
+module _ (s : Store) (r : Representable base s) (h : Unsettled base s) where
+  -- The pseudo-committed one of lowest rank that depends on nobody commits, and so on,
+  pub commits-lowest : (t : ℕ) → LowestReady s t
+      → (settledAll s .store ≡ settledAll (commit t s) .store) × (settledAll s .committed ≡ t ∷ settledAll (commit t s) .committed)
+  commits-lowest t lowest =
+      let e = settled-step s (r .statuses) t (lowest-found s (r .statuses) (h .once) (h .gapless) t lowest) in
+      (ap (λ (x : Settlement). x .store) e, ap (λ (x : Settlement). x .committed) e)
+
+  -- until none is left.
+  pub commits-none : ((t : ℕ) → PseudoCommitted s t → Ready (s .log) t → ⊥) → (settledAll s .store ≡ s) × (settledAll s .committed ≡ [])
+  commits-none none =
+      let e = settled-end s (none-ready s (r .statuses) (h .once) (h .gapless) .1 none) in
+      (ap (λ (x : Settlement). x .store) e, ap (λ (x : Settlement). x .committed) e)
+
+  -- So a pseudo-committed one commits exactly where no way of dependencies leads from it to an active one;
+  pub settles-exactly : (u : ℕ) → PseudoCommitted s u
+      → Any (λ (x : ℕ). x ≡ u) (settledAll s .committed) ↔ (((v : ℕ) × Active s v × Path (DependsOn (s .log)) (λ c. Unit {0}) u v) → ⊥)
+  settles-exactly = commits.settles-exactly s r h
+
+  -- no other commits,
+  pub settles-only : (u : ℕ) → Any (λ (x : ℕ). x ≡ u) (settledAll s .committed) → PseudoCommitted s u
+  settles-only = commits.all-commits s r h .only
+
+  -- one that does not commit stays pseudo-committed,
+  pub never-aborted : (u : ℕ) → PseudoCommitted s u → Any (λ (x : ℕ). x ≡ u) (settledAll s .committed) ⊎ PseudoCommitted (settledAll s .store) u
+  never-aborted = commits.all-commits s r h .kept
+
+  -- and active ones stay active.
+  pub settles-active : (u : ℕ) → Active (settledAll s .store) u ↔ Active s u
+  settles-active = commits.all-commits s r h .active
+
+-- Of finish and of cancel, where the reply counts those that committed.
+module _ (w : List ℕ) (t : ℕ) (list : List ℕ) (accepted : endReason base whetherSound w t list ≡ 0) (r : Served)
+    (call : (r ≡ finish base whetherSound w t list) ⊎ (r ≡ cancel base whetherSound w t list)) (n : ℕ)
+    (counted : (r .outcome .reply ≡ committed n) ⊎ (r .outcome .reply ≡ circle n) ⊎ (r .outcome .reply ≡ cancelled n)) where
+  abbrev left : Concluded (decode base w) t list r n
+  left = concluding.concludes w t list accepted n r counted call
+
+  -- At the list's front stand exactly those that commit: the transaction itself, where it does, and each pseudo-committed one from which, once the
+  -- transaction's entries are out of the log, no way of dependencies leads to another active one.
+  pub commits-exactly : (u : ℕ)
+      → Any (λ (x : ℕ). x ≡ u) (take n (r .outcome .list))
+      ↔ (((u ≡ t) × (r .outcome .reply ≡ committed n))
+      ⊎ (PseudoCommitted (decode base w) u
+      × (((v : ℕ) × (v ≡ t → ⊥) × Active (decode base w) v × Path (DependsOn (without t (decode base w .log))) (λ c. Unit {0}) u v) → ⊥)))
+  commits-exactly = concluding.commits-exactly (decode base w) t list r n left
+
+  -- The other pseudo-committed ones stay so, and the other active ones.
+  pub stay-exactly : (u : ℕ)
+      → PseudoCommitted (decode base (r .book)) u ↔ (PseudoCommitted (decode base w) u × (Any (λ (x : ℕ). x ≡ u) (take n (r .outcome .list)) → ⊥))
+  stay-exactly = concluding.stay-exactly (decode base w) t list r n left
+
+  -- Ranks close up in their order: of two that stay, one is below the other exactly if it was before.
+  pub ranks-keep-order : (u v p q i j : ℕ) → statusOf (decode base w) u ≡ pseudoCommitted p → statusOf (decode base w) v ≡ pseudoCommitted q
+      → statusOf (decode base (r .book)) u ≡ pseudoCommitted i → statusOf (decode base (r .book)) v ≡ pseudoCommitted j → (i < j) ↔ (p < q)
+  ranks-keep-order = concluding.ranks-keep-order (decode base w) t list r n left
+
+  pub active-exactly : (u : ℕ) → Active (decode base (r .book)) u ↔ ((u ≡ t → ⊥) × Active (decode base w) u)
+  active-exactly = concluding.active-exactly (decode base w) t list r n left
+
+  -- They stand in the order of `commits-lowest`, the transaction itself first where it commits;
+  pub commits-in-order : ((r .outcome .reply ≡ committed n) × (take n (r .outcome .list) ≡ t ∷ settledAll (commit t (decode base w)) .committed))
+      ⊎ ((r .outcome .reply ≡ committed n → ⊥) × (take n (r .outcome .list) ≡ settledAll (ended t (decode base w)) .committed))
+  commits-in-order = concluding.named-in-order (decode base w) t list r n left
+
+  -- they are as many as the reply counts, at most 64, and none is named twice,
+  pub commits-counted : (length (take n (r .outcome .list)) ≡ n) × (n ≤ 64)
+  commits-counted = (concluding.named-counted (decode base w) t list r n left, concluding.named-few (decode base w) t list r n left)
+
+  pub commits-once : Distinct (take n (r .outcome .list))
+  commits-once = concluding.named-once (decode base w) t list r n left
+
+  -- and the rest of the list keeps its bytes.
+  pub rest-stays : r .outcome .list ≡ take n (r .outcome .list) ++ drop n list
+  rest-stays = concluding.rest-stays (decode base w) t list r n left
+
+  -- The rows of each object become what the entries of those named make of them, served one transaction after the other, each one's own in order;
+  pub commits-carry : (o : ℕ) (kind : Kind) → objectOf (decode base w) o .kind ≡ some kind
+      → objectOf (decode base (r .book)) o .rows
+      ≡ after (object reduceKey kind) (inOrder (take n (r .outcome .list)) (onObject o (decode base w .log))) (objectOf (decode base w) o .rows)
+  commits-carry = concluding.rows-carried (decode base w) t list r n left
+
+  -- the entries of those named and of the transaction leave the log, and no others,
+  pub log-left : decode base (r .book) .log ≡ withoutAll (take n (r .outcome .list)) (without t (decode base w .log))
+  log-left = concluding.log-left (decode base w) t list r n left
+
+  -- and no kind changes.
+  pub kinds-stay : (o : ℕ) → objectOf (decode base (r .book)) o .kind ≡ objectOf (decode base w) o .kind
+  kinds-stay = concluding.kinds-stay (decode base w) t list r n left
+
+-- ---- Kept by every call
+
+-- An accepted set up writes a sound book over any words,
+pub set-up-sound : (w kinds : List ℕ) → setUpReason base w kinds ≡ 0 → Sound base (setUp base w kinds .book)
+set-up-sound = kept.set-up-sound
+
+-- every call leaves a sound book sound,
+pub sound-kept : (call : Call) (w : List ℕ) → Sound base w → Sound base (desk call w .book)
+sound-kept = kept.sound-kept whetherSound
+
+-- and when no transaction is active afterwards, none is left pseudo-committed.
+pub none-left-finished : (call : Call) (w : List ℕ) → Sound base w
+    → ((t : ℕ) → Active (decode base (desk call w .book)) t → ⊥) → (t : ℕ) → PseudoCommitted (decode base (desk call w .book)) t → ⊥
+none-left-finished call w h =
+    let after = sound-kept call w h in
+    none-left (decode base (desk call w .book)) (representable (desk call w .book) (after .packed) .statuses) (after .store .acyclic) (after .store .dependent)

@@ -1,0 +1,1 @@
+// The commit protocol: definitions of the calls and theorems about them, in specs/.

@@ -1,0 +1,178 @@
+-- Laws for reasons: the first that applies, and each test from what the code finds.
+use Prim.Native.Nat.{ℕ, zero, suc, _+_, _≤_, _<_}
+use mathlib.Core.Path.{_≡_, refl, sym, ap, _∙_}
+use mathlib.Core.Bool.{Bool, true, false, cond, not, and-false}
+use mathlib.Core.Logic.{_↔_, ⊎-elim}
+use mathlib.Core.Option.{Option, none, some}
+use mathlib.Core.List.{List, [], _∷_, map}
+use native.Mathlib.Nat.{not-suc-le-zero}
+use native.Mathlib.Omega.{arith}
+use borrow.Author.Tests.{eq-eqb, ne-eqb, lt-ltb, le-ltb, le-leb, lt-leb}
+use lib.Dec.{eqb, ltb, leb}
+use lib.ListN.{length, getD, List·getD-eq-default}
+use Rattle.operations.specs.Operations.{Kind, Operation, numbered, reduceKey}
+use Rattle.operations.specs.Laws.Cases.{split, by-key}
+use Rattle.operations.specs.PairRules.{firstNumber, lastNumber}
+use Rattle.store.specs.Store.{Status, Object, Store, statusOf, objectOf}
+use Rattle.store.specs.Layout.{base, decode, readStatus, readKind, word, objectStart, entryAt, orPop, adds, Packed}
+use Rattle.store.specs.Soundness.{Sound}
+use Rattle.store.specs.Decisions.{whetherSound}
+use Rattle.store.specs.Laws.Deciding.{decided}
+use Rattle.store.specs.Laws.Lists.{length-tabulate}
+use Rattle.store.specs.Laws.Reading.{status-by-word, object-read, object-past}
+use Rattle.store.specs.Laws.Words.{below, each}
+use Rattle.answers.specs.Answers.{rowsNeeded}
+use Rattle.answers.specs.Laws.Entries.{needed-none}
+use Rattle.protocol.specs.Calls.{wrongLength, someAbove, badKinds, unsound, aboveLast, isLive, alreadyLive, isActive, notActive, isNone, withoutKind, isOf, notOfKind, logFull, noRoom, request}
+
+-- ---- The first that applies
+
+module _ {test : Bool} (number : ℕ) where
+  pub applies : (later : ℕ) → test ≡ true → number ≡ cond test number later
+  applies later e = rw e refl
+
+  pub passed : {reason later : ℕ} → test ≡ false → reason ≡ later → reason ≡ cond test number later
+  passed e rest = rw e rest
+
+-- ---- The kinds given to set up
+
+pub one-above : (n : ℕ) (kinds : List ℕ) (i : ℕ) → i < length kinds → n < getD kinds i 0 → true ≡ someAbove n kinds
+one-above n [] i l above = absurd (not-suc-le-zero l)
+one-above n (k ∷ kinds) zero l above = rw (lt-ltb n k above) refl
+one-above n (k ∷ kinds) (suc i) l above = split (ltb n k) (λ (e : ltb n k ≡ true). rw e refl)
+    (λ (e : ltb n k ≡ false). rw e (one-above n kinds i (omega arith) above))
+
+pub also-below : (n : ℕ) (kinds : List ℕ) (i : ℕ) → ((j : ℕ) → j < i → getD kinds j 0 ≤ n) → getD kinds i 0 ≤ n
+    → (j : ℕ) → j < i + 1 → getD kinds j 0 ≤ n
+also-below n kinds i below here j l = by-key (λ (k : ℕ). getD kinds k 0 ≤ n) j i here (λ other. below j (omega arith))
+
+pub none-above : (n : ℕ) (kinds : List ℕ) → ((i : ℕ) → i < length kinds → getD kinds i 0 ≤ n) → false ≡ someAbove n kinds
+none-above n [] below = refl
+none-above n (k ∷ kinds) below = rw (le-ltb n k (below 0 (omega arith))) (none-above n kinds (λ i l. below (suc i) (omega arith)))
+
+module _ (kinds : List ℕ) where
+  pub bad-number : (length kinds ≡ 16 → ⊥) → badKinds kinds ≡ true
+  bad-number n = rw (ne-eqb (length kinds) 16 n) refl
+
+  pub right-number : length kinds ≡ 16 → badKinds kinds ≡ someAbove 3 kinds
+  right-number e = rw (eq-eqb (length kinds) 16 e) refl
+
+-- ---- The number of an operation
+
+module _ (kind : Kind) (x number : ℕ) (read : readKind x ≡ some kind) where
+  pub from-first : firstNumber kind ≤ number → leb number (lastNumber kind) ≡ isOf (readKind x) number
+  from-first l = rw (read, le-leb (firstNumber kind) number l) refl
+
+  pub before-first : number < firstNumber kind → leb (firstNumber kind) number ≡ isOf (readKind x) number
+  before-first l = rw (read, lt-leb (firstNumber kind) number l) refl
+
+pub of-no-kind : (x number : ℕ) → (x ≡ 1 → ⊥) → (x ≡ 2 → ⊥) → (x ≡ 3 → ⊥) → false ≡ isOf (readKind x) number
+of-no-kind zero number a b c = refl
+of-no-kind (suc zero) number a b c = absurd (a refl)
+of-no-kind (suc (suc zero)) number a b c = absurd (b refl)
+of-no-kind (suc (suc (suc zero))) number a b c = absurd (c refl)
+of-no-kind (suc (suc (suc (suc x)))) number a b c = refl
+
+-- ---- What is read as a status or a kind
+
+live-word : (x : ℕ) → (x ≡ 0 → ⊥) → isLive (readStatus x) ≡ true
+live-word zero n = absurd (n refl)
+live-word (suc zero) n = refl
+live-word (suc (suc rank)) n = refl
+
+other-word : (x : ℕ) → (x ≡ 1 → ⊥) → not (isActive (readStatus x)) ≡ true
+other-word zero n = refl
+other-word (suc zero) n = absurd (n refl)
+other-word (suc (suc rank)) n = refl
+
+kind-word : (x : ℕ) → x ≤ 3 → (x ≡ 0 → ⊥) → isNone (readKind x) ≡ false
+kind-word zero l n = absurd (n refl)
+kind-word (suc zero) l n = refl
+kind-word (suc (suc zero)) l n = refl
+kind-word (suc (suc (suc zero))) l n = refl
+kind-word (suc (suc (suc (suc x)))) l n = absurd (omega arith)
+
+-- ---- Each test
+
+module _ (w : List ℕ) where
+  pub other-length : (length w ≡ 3_937 → ⊥) → wrongLength w ≡ true
+  other-length n = ap not (ne-eqb (length w) 3_937 n)
+
+  pub right-length : length w ≡ 3_937 → wrongLength w ≡ false
+  right-length e = ap not (eq-eqb (length w) 3_937 e)
+
+  pub soundness : {sound : Bool} → (sound ≡ true) ↔ Sound base w → unsound whetherSound w ≡ not sound
+  soundness {sound} said = ap not (decided (whetherSound w) sound said)
+
+  module _ (t status : ℕ) (l : t ≤ 63) (found : status ≡ word w (1 + t)) where
+    read : statusOf (decode base w) t ≡ readStatus status
+    read = status-by-word base w t status (omega arith) found
+
+    pub already-live : (status ≡ 0 → ⊥) → alreadyLive (decode base w) t ≡ true
+    already-live n = ap isLive read ∙ live-word status n
+
+    pub not-live : status ≡ 0 → alreadyLive (decode base w) t ≡ false
+    not-live e = ap isLive (read ∙ ap readStatus e)
+
+    pub not-active : (status ≡ 1 → ⊥) → notActive (decode base w) t ≡ true
+    not-active n = ap (λ (x : Status). not (isActive x)) read ∙ other-word status n
+
+    pub is-active : status ≡ 1 → notActive (decode base w) t ≡ false
+    is-active e = ap (λ (x : Status). not (isActive x)) (read ∙ ap readStatus e)
+
+  pub no-object : (o : ℕ) → 15 < o → withoutKind (decode base w) o ≡ true
+  no-object o l = ap (λ (x : Object). isNone (x .kind)) (object-past base w o (omega arith))
+
+  module _ (o at kind : ℕ) (l : o ≤ 15) (here : at ≡ o) (found : kind ≡ word w (objectStart at)) where
+    kind-read : objectOf (decode base w) o .kind ≡ readKind kind
+    kind-read =
+        ap (λ (x : Object). x .kind) (object-read base w o (omega arith)) ∙ ap (λ (x : ℕ). readKind (word w (objectStart x))) (sym here)
+        ∙ ap readKind (sym found)
+
+    pub without-kind : kind ≡ 0 → withoutKind (decode base w) o ≡ true
+    without-kind e = ap isNone (kind-read ∙ ap readKind e)
+
+    pub has-kind : Packed base w → (kind ≡ 0 → ⊥) → withoutKind (decode base w) o ≡ false
+    has-kind p n = ap isNone kind-read ∙ kind-word kind (rw (found, here) (p .objects o (omega arith) .kind)) n
+
+    pub not-of-kind : (number : ℕ) {of : Bool} → of ≡ isOf (readKind kind) number → notOfKind (decode base w) o number ≡ not of
+    not-of-kind number e = ap (λ (x : Option Kind). not (isOf x number)) kind-read ∙ ap not (sym e)
+
+  pub log-full : word w 0 ≡ 256 → logFull (decode base w) ≡ true
+  log-full e = rw (length-tabulate (word w 0) (entryAt w)) (le-leb 256 (word w 0) (omega arith))
+
+  pub log-room : Packed base w → (word w 0 ≡ 256 → ⊥) → logFull (decode base w) ≡ false
+  log-room p n = rw (length-tabulate (word w 0) (entryAt w)) (lt-leb 256 (word w 0) (omega (arith, p .log .entries)))
+
+-- An operation may need a row where its number is that of a push or an insert.
+adds-needed : (number k v : ℕ) → adds (request base number k v) ≡ eqb (rowsNeeded number) 1
+adds-needed number k v =
+    below number 12 (each (λ (n : ℕ). adds (request base n k v) ≡ eqb (rowsNeeded n) 1) 12 search depth 20 number)
+    (λ (l : 12 ≤ number). ap (λ (o : Option Operation). adds (orPop o)) (List·getD-eq-default (none ∷ map some (numbered reduceKey k v)) none l)
+    ∙ ap (λ (n : ℕ). eqb n 1)
+    (needed-none number (⊎-elim (λ e. absurd (omega arith)) (⊎-elim (λ e. absurd (omega arith)) (λ e. absurd (omega arith))))))
+
+module _ (s : Store) (o number k v : ℕ) where
+  pub no-room : {rows used : ℕ} → rows ≡ rowsNeeded number → rows ≡ 1 → used ≡ base .used s o → leb 64 used ≡ true
+      → noRoom base s o (request base number k v) ≡ true
+  no-room needs one counted full = rw (adds-needed number k v, sym needs, one, sym counted, full) refl
+
+  pub needs-none : {rows : ℕ} → rows ≡ rowsNeeded number → (rows ≡ 1 → ⊥) → noRoom base s o (request base number k v) ≡ false
+  needs-none {rows} needs other = rw (adds-needed number k v, sym needs, ne-eqb rows 1 other) refl
+
+  pub has-room : {used : ℕ} → used ≡ base .used s o → leb 64 used ≡ false → noRoom base s o (request base number k v) ≡ false
+  has-room counted free = rw (sym counted, free) (and-false (adds (request base number k v)))
+
+-- ---- Past the tests that calls begin with
+
+module _ (w : List ℕ) (right : length w ≡ 3_937) where
+  pub past-length : {r later : ℕ} → r ≡ later → r ≡ cond (wrongLength w) 1 later
+  past-length rest = passed 1 (right-length w right) rest
+
+  module _ {sound : Bool} (said : (sound ≡ true) ↔ Sound base w) (holds : not sound ≡ false) where
+    pub past-soundness : {r later : ℕ} → r ≡ later → r ≡ cond (wrongLength w) 1 (cond (unsound whetherSound w) 4 later)
+    past-soundness rest = past-length (passed 4 (soundness w said ∙ holds) rest)
+
+    pub past-last : (t : ℕ) → t ≤ 63 → {r later : ℕ} → r ≡ later
+        → r ≡ cond (wrongLength w) 1 (cond (unsound whetherSound w) 4 (cond (aboveLast t) 5 later))
+    past-last t l rest = past-soundness (passed 5 (le-ltb 63 t l) rest)

@@ -1,0 +1,69 @@
+-- `scheduler::cancel`: refused, or aborted.
+use mathlib.Core.Path.{refl, sym, _∙_}
+use native.Mathlib.Omega.{arith}
+use borrow.Author.Needs.{needs}
+use Rattle.store.specs.Layout.{base, decode}
+use Rattle.store.specs.Decisions.{whetherSound}
+use Rattle.store.specs.Theorems.{representable}
+use Rattle.protocol.specs.Ending.{ended}
+use Rattle.protocol.specs.Laws.Unsettled.{unsettled}
+use Rattle.protocol.specs.Laws.Ranks.{ended-count}
+use Rattle.protocol.specs.Laws.Settling.{settled-few}
+use Rattle.protocol.specs.Terms.{EndAccepted}
+use Rattle.protocol.specs.Laws.Reasons.{end-accepted}
+use Rattle.scheduler.specs.Laws.Serving.{cancel-refused, cancelled}
+use Rattle.scheduler.proofs.cancel.Statement.{statement}
+use Rattle.scheduler.proofs.cancel.Tie as tie
+
+abbrev start : tie.Else1 → tie.Start
+start c = c .before .before .before .before .before .before .before
+
+refused : tie.Need-returns
+refused c =
+    let a = c .before .before .before .before .before .before .before .args in
+    cancel-refused (a .book .now) (a .transaction) (a .list .now) _ (c .before .end .ensures (a .list .now) refl) (c .if1 .taken)
+
+is-accepted : (c : tie.Else1) → let a = start c .args in EndAccepted base (a .book .now) (a .transaction) (a .list .now)
+is-accepted c =
+    let a = start c .args in
+    end-accepted base whetherSound (a .book .now) (a .transaction) (a .list .now) (sym (c .before .end .ensures (a .list .now) refl) ∙ c .if1 .left)
+
+abort-requires : tie.Need-abort-requires
+abort-requires c κs =
+    let past = c .before .before .before in
+    let a = is-accepted past in
+    let examined = past .before .before .before .examined .ensures in
+    (record { packed = a .sound .packed; unsettled = unsettled base _ (a .sound .store); edges = examined .1 (examined .0 .1 (a .sound)) .1 }, a .active, a .fits)
+
+cast : tie.Need-cast-t18
+cast c =
+    let past = c .before .before .before .before .before .before .before .before in
+    let s = decode base (start past .args .book .now) in
+    let t = start past .args .transaction in
+    let a = is-accepted past in
+    omega (
+      arith,
+      c .before .before .before .before .abort .ensures .2,
+      settled-few (ended t s) (ended-count s t (representable (start past .args .book .now) (a .sound .packed) .statuses) (a .active)),
+    )
+
+done : tie.Need-returns-2
+done c =
+    let past = c .before .before .before .before .before .before .before .before in
+    let a = start past .args in
+    cancelled (a .book .now) (a .transaction) (a .list .now) _ (past .before .end .ensures (a .list .now) refl) (past .if1 .left)
+    _ _ _ (c .before .before .before .before .abort .ensures)
+
+pub cancel-spec : {M : Type 1} → statement M
+cancel-spec =
+    tie.close
+    (tie.spec
+    (λ c κs. search needs)
+    (λ c κs. search needs)
+    (λ c. search needs)
+    refused
+    abort-requires
+    cast
+    (λ c. search needs)
+    (λ c. search needs)
+    done)

@@ -1,0 +1,27 @@
+-- Some element of a list is such.
+use mathlib.Core.Logic.{_↔_, _⊎_, inl, inr, ⊎-elim}
+use mathlib.Core.List.{List, [], _∷_, _++_}
+use Rattle.operations.specs.Operations.{All}
+use Rattle.store.specs.Dependency.{Any}
+
+module _ {A : Type 0} where
+  pub any-some : (P : A → Type 0) (l : List A) → Any P l → (x : A) × P x
+  any-some P [] p = absurd p
+  any-some P (x ∷ l) (inl p) = (x, p)
+  any-some P (x ∷ l) (inr p) = any-some P l p
+
+  pub none-any : (P : A → Type 0) (l : List A) → (Any P l → ⊥) → All (λ (x : A). P x → ⊥) l
+  none-any P [] n = tt
+  none-any P (x ∷ l) n = (λ p. n (inl p), none-any P l (λ p. n (inr p)))
+
+  pub any-map : (P Q : A → Type 0) → ((x : A) → P x → Q x) → (l : List A) → Any P l → Any Q l
+  any-map P Q f [] p = p
+  any-map P Q f (x ∷ l) (inl p) = inl (f x p)
+  any-map P Q f (x ∷ l) (inr p) = inr (any-map P Q f l p)
+
+  pub any-append : (P : A → Type 0) (l m : List A) → Any P (l ++ m) ↔ (Any P l ⊎ Any P m)
+  any-append P [] m = (inr, ⊎-elim (λ p. absurd p) (λ p. p))
+  any-append P (x ∷ l) m = (
+    ⊎-elim (λ p. inl (inl p)) (λ p. ⊎-elim (λ q. inl (inr q)) inr (any-append P l m .0 p)),
+    ⊎-elim (⊎-elim inl (λ p. inr (any-append P l m .1 (inl p)))) (λ p. inr (any-append P l m .1 (inr p))),
+  )
