@@ -1,4 +1,4 @@
-// Whether each log entry has the answer that replay gives, and whether there is room for the rows that entries may need.
+// Whether each log entry has the answer that replay gives, and whether there is room for the rows that entries may need; what replay answers a request.
 use operations::Operation;
 use operations::Reply;
 ghost use mathlib.Core.Path.{_≡_};

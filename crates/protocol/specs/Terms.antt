@@ -71,7 +71,7 @@ module _ (t : ℕ) (requested : Operation) where
     pub other : owner ≡ t → ⊥
     pub unrecoverable : recoverable requested (entry .operation) ≡ false
 
--- Entry i of the log is b's, the later entry j is a's, both are of one object, and they do not commute.
+-- Two places of the log: the earlier entry is b's, the later one is a's, both are of one object, and they do not commute.
 pub record Places (d : Logged) (log : List Logged) (a b : ℕ) : Type 0 where
   pub earlier : ℕ
   pub later : ℕ

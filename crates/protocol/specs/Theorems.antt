@@ -1,5 +1,6 @@
--- Each operation is answered, told to wait, ordered behind another, finished, cancelled for a circle or committed exactly where document 000's
--- recoverability and commit protocol (sections 4.2.1 and 4.3), as 01 fixes them, says so: of the definitions in `Calls` and `Ending`.
+-- What holds of the calls as `Calls` and `Ending` define them: where each is refused, and what it leaves; that each operation is answered, told to wait,
+-- ordered behind another, finished, cancelled for a circle or committed exactly where document 000's recoverability and commit protocol (sections 4.2.1 and
+-- 4.3), as 01 fixes them, says so; and what every call keeps.
 use Prim.Native.Nat.{ℕ, _+_, _*_, _<_, _≤_}
 use mathlib.Core.Path.{_≡_, ap}
 use mathlib.Core.Bool.{true, false}
