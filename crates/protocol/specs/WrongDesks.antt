@@ -1,6 +1,7 @@
 -- A wrong desk that no edit of the code can say, and a store at which it differs from the definitions.
 use mathlib.Core.Path.{_≡_, refl}
 use mathlib.Core.List.{List, [], _∷_}
+use lib.ListN.{replicate}
 use Rattle.operations.specs.Operations.{row, push, onStack}
 use Rattle.store.specs.Store.{active, Object, Store, objectOf}
 use Rattle.store.specs.Layout.{base}
@@ -12,9 +13,9 @@ use Rattle.protocol.specs.Calls.{empty, entered}
 abbrev restored : List Object → Store → Store
 restored saved s = record { statuses = s .statuses; objects = saved; log = s .log }
 
--- Object 0 is an empty stack as transaction 0 begins,
+-- A book set up with one stack, object 0, is empty as transaction 0 begins,
 abbrev saved : Store
-saved = withStatus 0 active (empty (1 ∷ []))
+saved = withStatus 0 active (empty (1 ∷ replicate 15 0))
 
 -- and transaction 1 pushes 7 and commits before 0 is cancelled.
 abbrev before : Store
