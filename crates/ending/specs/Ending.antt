@@ -6,8 +6,8 @@ use lib.ListN.{length, drop}
 use Rattle.bitset.specs.Bitset.{Represents}
 use Rattle.store.specs.Dependency.{DependsOn}
 use Rattle.store.specs.Layout.{Packed, encode, decode, base}
+use Rattle.store.specs.Soundness.{Unsettled}
 use Rattle.protocol.specs.Ending.{Settlement}
-use Rattle.protocol.specs.Terms.{Unsettled}
 
 -- The sets are those of the book's dependencies; all else is sound, but that somebody may be ready.
 pub record Tracked (w sets : List ℕ) : Type 0 where

@@ -3,6 +3,7 @@ use Prim.Native.Nat.{ℕ}
 use mathlib.Core.Path.{_≡_}
 use mathlib.Core.Bool.{Bool, true, false, not, cond}
 use mathlib.Core.List.{List, [], _∷_}
+use lib.Dec.{eqb}
 use Rattle.operations.specs.Operations.{All}
 
 -- A type of object with its laws. `view o` is what decides the reply of `o`: every operation carries it along, and one that `o` is
@@ -37,10 +38,18 @@ pub record Entry (Operation Reply : Type 0) : Type 0 where
   pub operation : Operation
   pub answer : Reply
 
--- The entries of the transactions that the test picks, in order.
+-- Those that the test picks, in order.
+abbrev pub filter : {A : Type 0} → (A → Bool) → List A → List A
+filter picked [] = []
+filter picked (x ∷ l) = cond (picked x) (x ∷ filter picked l) (filter picked l)
+
+-- The entries of the transactions that the test picks.
 abbrev pub only : {Operation Reply : Type 0} → (ℕ → Bool) → List (Entry Operation Reply) → List (Entry Operation Reply)
-only picked [] = []
-only picked (e ∷ l) = cond (picked (e .transaction)) (e ∷ only picked l) (only picked l)
+only picked = filter (λ e. picked (e .transaction))
+
+-- Whether a number is t.
+abbrev pub one : ℕ → ℕ → Bool
+one t h = eqb h t
 
 abbrev pub others : (ℕ → Bool) → ℕ → Bool
 others picked h = not (picked h)

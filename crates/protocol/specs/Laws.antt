@@ -1,5 +1,4 @@
 pub mod Reasons
-pub mod Unsettled
 pub mod Ranks
 pub mod Carrying
 pub mod Ending

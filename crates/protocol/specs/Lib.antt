@@ -3,6 +3,6 @@ pub mod Ending
 pub mod Calls
 pub mod Call
 pub mod Terms
-pub mod WrongDesks
+pub mod Counterexamples
 pub mod Laws
 pub mod Theorems

@@ -4,15 +4,14 @@ use mathlib.Core.Path.{_≡_}
 use mathlib.Core.Bool.{true, false}
 use mathlib.Core.Option.{some}
 use mathlib.Core.List.{List, [], _∷_, _++_}
-use lib.Dec.{eqb}
 use lib.ListN.{length, getD}
 use Rattle.operations.specs.Operations.{Kind, Operation, Reply, All, kindOf, stored}
 use Rattle.operations.specs.PairRules.{recoverable, commutes}
-use Rattle.operations.specs.Log.{Entry, only}
+use Rattle.operations.specs.Log.{Entry, only, one}
 use Rattle.store.specs.Store.{absent, pseudoCommitted, Logged, Store, statusOf, objectOf, Active}
 use Rattle.store.specs.Layout.{Format, decode, adds}
 use Rattle.store.specs.Dependency.{Any, Ready}
-use Rattle.store.specs.Soundness.{RowsFormed, EntriesLive, EntriesFit, KeysReduced, EntriesRecoverable, EntriesAnswered, Room, OnceEach, WithoutGaps, Acyclic, Sound}
+use Rattle.store.specs.Soundness.{Sound}
 use Rattle.store.specs.Steps.{without}
 use Rattle.protocol.specs.Calls.{request}
 
@@ -84,19 +83,6 @@ pub record Places (d : Logged) (log : List Logged) (a b : ℕ) : Type 0 where
 
 -- ---- Who commits
 
--- Sound, but that a pseudo-committed transaction may depend on nobody: as a store is between a transaction's end and the last commit that follows.
-pub record Unsettled (format : Format) (s : Store) : Type 0 where
-  pub rows : RowsFormed format s
-  pub live : EntriesLive s
-  pub fits : EntriesFit s
-  pub reduced : KeysReduced format s
-  pub recoverable : EntriesRecoverable format s
-  pub answered : EntriesAnswered format s
-  pub room : Room format s
-  pub once : OnceEach s
-  pub gapless : WithoutGaps s
-  pub acyclic : Acyclic s
-
 -- The one that commits next.
 pub record LowestReady (s : Store) (t : ℕ) : Type 0 where
   pub rank : ℕ
@@ -107,7 +93,7 @@ pub record LowestReady (s : Store) (t : ℕ) : Type 0 where
 -- The entries of those listed, one transaction after the other, each one's own in order.
 abbrev pub inOrder : List ℕ → List (Entry Operation Reply) → List (Entry Operation Reply)
 inOrder [] l = []
-inOrder (t ∷ ts) l = only (λ h. eqb h t) l ++ inOrder ts l
+inOrder (t ∷ ts) l = only (one t) l ++ inOrder ts l
 
 -- The log without them.
 abbrev pub withoutAll : List ℕ → List Logged → List Logged

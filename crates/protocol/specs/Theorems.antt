@@ -16,14 +16,14 @@ use Rattle.store.specs.Store.{absent, active, pseudoCommitted, Logged, Store, s
 use Rattle.store.specs.Dependency.{Any, DependsOn, Ready, Path, OnCycle}
 use Rattle.store.specs.Layout.{decode, objectStart, readKind, joined, rowWords, Representable, base}
 use Rattle.store.specs.Steps.{without, withStatus}
-use Rattle.store.specs.Soundness.{Sound}
+use Rattle.store.specs.Soundness.{Unsettled, Sound}
 use Rattle.store.specs.Decisions.{whetherSound}
 use Rattle.store.specs.Theorems.{representable, none-left}
 use Rattle.protocol.specs.Replies.{Served, ok, answered, wait, finished, committed, circle, cancelled, counted, refused}
 use Rattle.protocol.specs.Ending.{ended, commit, Settlement, settledAll}
 use Rattle.protocol.specs.Calls.{setUpReason, setUp, beginReason, begin, request, operateReason, operate, endReason, finish, cancel, contentsReason, contents}
 use Rattle.protocol.specs.Call.{Call, desk, reasonOf, listOf}
-use Rattle.protocol.specs.Terms.{SetUpAccepted, BeginAccepted, OperateAccepted, EndAccepted, ContentsAccepted, Unsettled, LowestReady, Places, Earliest, inOrder, withoutAll, Distinct}
+use Rattle.protocol.specs.Terms.{SetUpAccepted, BeginAccepted, OperateAccepted, EndAccepted, ContentsAccepted, LowestReady, Places, Earliest, inOrder, withoutAll, Distinct}
 use Rattle.protocol.specs.Laws.Reasons.{set-up-accepted, set-up-accepts, begin-accepted, begin-accepts, operate-accepted, operate-accepts, end-accepted, end-accepts, contents-accepted, contents-accepts}
 use Rattle.protocol.specs.Laws.Settling.{lowest-found, none-ready, settled-end, settled-step}
 use Rattle.protocol.specs.Laws.Protocol as protocol
@@ -276,4 +276,5 @@ pub none-left-finished : (call : Call) (w : List ℕ) → Sound base w
     → ((t : ℕ) → Active (decode base (desk call w .book)) t → ⊥) → (t : ℕ) → PseudoCommitted (decode base (desk call w .book)) t → ⊥
 none-left-finished call w h =
     let after = sound-kept call w h in
-    none-left (decode base (desk call w .book)) (representable (desk call w .book) (after .packed) .statuses) (after .store .acyclic) (after .store .dependent)
+    none-left (decode base (desk call w .book)) (representable (desk call w .book) (after .packed) .statuses) (after .store .unsettled .acyclic)
+    (after .store .dependent)

@@ -59,7 +59,8 @@ abbrev pub Dependent : Store → Type 0
 Dependent s = (t : ℕ) → PseudoCommitted s t → (u : ℕ) × Live s u × DependsOn (s .log) t u
 
 module _ (format : Format) where
-  pub record SoundStore (s : Store) : Type 0 where
+  -- Sound, but that a pseudo-committed transaction may depend on nobody: as a store is between a transaction's end and the last commit that follows.
+  pub record Unsettled (s : Store) : Type 0 where
     pub rows : RowsFormed format s
     pub live : EntriesLive s
     pub fits : EntriesFit s
@@ -70,6 +71,9 @@ module _ (format : Format) where
     pub once : OnceEach s
     pub gapless : WithoutGaps s
     pub acyclic : Acyclic s
+
+  pub record SoundStore (s : Store) : Type 0 where
+    pub unsettled : Unsettled s
     pub dependent : Dependent s
 
   -- The length, ranges and zeros are said of the words, the rest of the store that they are read as. A transaction above 63 reads as absent and an object

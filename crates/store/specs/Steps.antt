@@ -2,10 +2,11 @@
 use Prim.Native.Nat.{ℕ, _-_}
 use mathlib.Core.Bool.{cond}
 use mathlib.Core.List.{List, [], _∷_, _++_, map}
-use lib.Dec.{eqb, ltb}
+use lib.Dec.{ltb}
 use lib.ListN.{set}
 use Rattle.operations.specs.Operations.{Operation, next}
-use Rattle.store.specs.Store.{Status, absent, active, pseudoCommitted, Object, Logged, Store, objectOf}
+use Rattle.operations.specs.Log.{one, others}
+use Rattle.store.specs.Store.{Status, absent, active, pseudoCommitted, Object, Logged, Store, objectOf, operationsOf}
 
 -- An entry put last in the log.
 abbrev pub appended : Logged → Store → Store
@@ -13,8 +14,7 @@ appended l s = record { statuses = s .statuses; objects = s .objects; log = s .l
 
 -- The log without a transaction's entries.
 abbrev pub without : ℕ → List Logged → List Logged
-without t [] = []
-without t (l ∷ log) = cond (eqb (l .entry .transaction) t) (without t log) (l ∷ without t log)
+without t = operationsOf (others (one t))
 
 -- The transaction's status stays.
 abbrev pub dropped : ℕ → Store → Store

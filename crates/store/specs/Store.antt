@@ -1,13 +1,13 @@
 -- Document 01, "The book": what a book holds, as a value.
 use Prim.Native.Nat.{ℕ, suc}
 use mathlib.Core.Path.{_≡_}
-use mathlib.Core.Bool.{cond}
+use mathlib.Core.Bool.{Bool, cond}
 use mathlib.Core.Option.{Option, none}
 use mathlib.Core.List.{List, [], _∷_}
 use lib.Dec.{eqb}
 use lib.ListN.{getD}
 use Rattle.operations.specs.Operations.{Kind, Row, Operation, Reply}
-use Rattle.operations.specs.Log.{Entry}
+use Rattle.operations.specs.Log.{Entry, filter}
 
 -- The status of a transaction (handout): absent, active (open), or pseudo-committed (finished) with its rank in the order of finishing.
 pub data Status : Type 0 where
@@ -63,3 +63,7 @@ pseudoCommittedCount s = pseudoCommittedIn (s .statuses)
 abbrev pub onObject : ℕ → List Logged → List (Entry Operation Reply)
 onObject o [] = []
 onObject o (e ∷ l) = cond (eqb (e .object) o) (e .entry ∷ onObject o l) (onObject o l)
+
+-- The operations of the transactions that the test picks.
+abbrev pub operationsOf : (ℕ → Bool) → List Logged → List Logged
+operationsOf picked = filter (λ (l : Logged). picked (l .entry .transaction))

@@ -3,10 +3,9 @@ use Prim.Native.Nat.{ℕ, _<_}
 use mathlib.Core.Path.{_≡_}
 use mathlib.Core.Logic.{_↔_}
 use mathlib.Core.List.{List}
-use lib.Dec.{eqb}
 use lib.ListN.{length, replicate, length-replicate}
 use Rattle.operations.specs.Operations.{Kind}
-use Rattle.operations.specs.Log.{Commuting}
+use Rattle.operations.specs.Log.{Commuting, one}
 use Rattle.operations.specs.Laws.Objects.{object}
 use Rattle.store.specs.Store.{Logged, Store, Active, PseudoCommitted, onObject}
 use Rattle.store.specs.Dependency.{DependsOn, Path, OnCycle}
@@ -46,7 +45,7 @@ zeros-sound = base-zeros-sound (replicate 3_937 0) (zeros-word 3_937) (length-re
 -- A transaction depends on nobody exactly where each of its entries commutes with every earlier entry of another on its object: what
 -- `committing` asks of one that commits.
 pub depends-on-nobody : (reduce : ℕ → ℕ) (kind : Kind) (t : ℕ) (log : List Logged)
-    → ((u : ℕ) → DependsOn log t u → ⊥) ↔ ((o : ℕ) → Commuting (object reduce kind) (λ h. eqb h t) (onObject o log))
+    → ((u : ℕ) → DependsOn log t u → ⊥) ↔ ((o : ℕ) → Commuting (object reduce kind) (one t) (onObject o log))
 depends-on-nobody reduce kind t log = (ready-commuting reduce kind t log, commuting-ready reduce kind t log)
 
 -- A cycle of at most 64 steps is there exactly where one of any length is.

@@ -12,6 +12,7 @@ use Rattle.cycles.specs.Cycles.{EdgeIn}
 use Rattle.store.specs.Store.{Logged, Store, pseudoCommittedCount}
 use Rattle.store.specs.Dependency.{DependsOn, Ready}
 use Rattle.store.specs.Layout.{base, decode, encode}
+use Rattle.store.specs.Soundness.{Unsettled}
 use Rattle.store.specs.Steps.{without}
 use Rattle.store.specs.Theorems.{representable}
 use Rattle.store.specs.Laws.Edges.{depends-without}
@@ -19,7 +20,6 @@ use Rattle.protocol.specs.Ending.{carriedOut, ended, commit, lowestReady, Settl
 use Rattle.protocol.specs.Laws.Carrying.{carried-log}
 use Rattle.protocol.specs.Laws.Ending.{ended-log, ended-representable, ended-unsettled, commit-representable, commit-unsettled}
 use Rattle.protocol.specs.Laws.Settling.{lowest-is, count-committed, settled-end, settled-step}
-use Rattle.protocol.specs.Terms.{Unsettled}
 use Rattle.ending.specs.Ending.{Tracked, Concluded}
 use Rattle.ending.specs.Laws.Books.{Encodes, held, is-packed, is-decoded, changed}
 

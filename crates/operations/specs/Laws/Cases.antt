@@ -8,6 +8,7 @@ use borrow.Author.Tests.{eqb-true, eqb-false}
 use lib.Dec.{eqb}
 use lib.ListN.{set}
 use Rattle.operations.specs.Operations.{All}
+use Rattle.operations.specs.Log.{filter}
 
 pub split : {A : Type 0} (b : Bool) → (b ≡ true → A) → (b ≡ false → A) → A
 split true f g = f refl
@@ -44,6 +45,12 @@ module _ {A : Type 0} where
   pub all-append : (P : A → Type 0) (l m : List A) → All P l → All P m → All P (l ++ m)
   all-append P [] m p q = q
   all-append P (x ∷ l) m p q = (p .0, all-append P l m (p .1) q)
+
+  pub all-filter : {P Q : A → Type 0} {picked : A → Bool} → ((x : A) → P x → picked x ≡ true → Q x) → (l : List A) → All P l → All Q (filter picked l)
+  all-filter f [] p = tt
+  all-filter {picked = picked} f (x ∷ l) p =
+      split (picked x) (λ (k : picked x ≡ true). rw k (f x (p .0) k, all-filter f l (p .1)))
+      (λ (k : picked x ≡ false). rw k (all-filter f l (p .1)))
 
 pub map-set : {A B : Type 0} (f : A → B) (xs : List A) (i : ℕ) (x : A) → map f (set xs i x) ≡ set (map f xs) i (f x)
 map-set f [] i x = refl

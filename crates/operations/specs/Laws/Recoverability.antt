@@ -6,7 +6,7 @@ use mathlib.Core.List.{[], _∷_}
 use Rattle.operations.specs.Operations.{All}
 use Rattle.operations.specs.Log as log
 use Rattle.operations.specs.Log.{ObjectType, only, others}
-use Rattle.operations.specs.Laws.Cases.{split, all-map, all-map₂}
+use Rattle.operations.specs.Laws.Cases.{split, all-map, all-map₂, all-filter}
 
 module _ (X : ObjectType) where
   open ObjectType X using (State, Operation, Reply, next, reply, recoverable, commutes, Valid, Fits, view, valid-next, reply-view, view-next, view-recoverable, next-commutes, recoverable-commutes)
@@ -88,12 +88,6 @@ module _ (X : ObjectType) where
       (ap (log.after X l) (swapped .0) ∙ rest .0, rest .1 ∙ swapped .2, λ p. (sym (swapped .1) ∙ p .0, rest .2 (rw (swapped .0) at (p .1))))
 
   module _ (picked : ℕ → Bool) where
-    pub all-only : {P Q : Entry → Type 0} → ((x : Entry) → P x → picked (x .transaction) ≡ true → Q x) → (l : log.Log X) → All P l → All Q (only picked l)
-    all-only f [] a = tt
-    all-only f (e ∷ l) a =
-        split (picked (e .transaction)) (λ (k : picked (e .transaction) ≡ true). rw k (f e (a .0) k, all-only f l (a .1)))
-        (λ (k : picked (e .transaction) ≡ false). rw k (all-only f l (a .1)))
-
     -- Serving the picked transactions first, each of whose entries commutes with every earlier entry of another, reaches the same
     -- state and gives every entry its answer.
     pub committing : (l : log.Log X) (s : State) → Valid s → All (log.EntryFits X) l → log.Commuting X picked l → log.Answered X l s
@@ -105,6 +99,6 @@ module _ (X : ObjectType) where
         split (picked (e .transaction)) (λ (k : picked (e .transaction) ≡ true). rw k (rest .0, (p .0, rest .1), rest .2))
         (λ (k : picked (e .transaction) ≡ false).
         let moved = after-list e (only picked l) s (f .0) v
-        (all-only {Q = log.EntryFits X} (λ (x : Entry) (h : Fits (x .operation)) q. h) l (f .1))
-        (all-only {Q = CommutesWith e} (λ (x : Entry) (h : log.PassesBefore X picked e x) q. h q k) l (c .0)) in
+        (all-filter {Q = log.EntryFits X} (λ x h q. h) l (f .1))
+        (all-filter {Q = CommutesWith e} (λ (x : Entry) (h : log.PassesBefore X picked e x) q. h q k) l (c .0)) in
         rw k (rw (← (moved .0)) (rest .0), moved .2 (rest .1), (moved .1 ∙ p .0, rw (moved .0) at (rest .2))))

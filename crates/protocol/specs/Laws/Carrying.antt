@@ -9,7 +9,7 @@ use borrow.Author.Tests.{eqb-true, eqb-false, eq-eqb, ne-eqb}
 use lib.Dec.{eqb}
 use lib.ListN.{length, getD, length-set}
 use Rattle.operations.specs.Operations.{Kind, Row, Operation, kindOf, next, All}
-use Rattle.operations.specs.Log.{only, after}
+use Rattle.operations.specs.Log.{only, after, one}
 use Rattle.operations.specs.Laws.Cases.{split, same, by-key, all-map}
 use Rattle.operations.specs.Laws.Objects.{object}
 use Rattle.store.specs.Store.{Status, absent, Object, Logged, Store, statusOf, objectOf, onObject}
@@ -63,7 +63,7 @@ module _ (t : ℕ) (log : List Logged) (s : Store) where
 -- Those of an object in the store: as its entries of the transaction leave them, served in order.
 module _ (reduce : ℕ → ℕ) (kind : Kind) (t o : ℕ) where
   abbrev served : List Logged → List Row → List Row
-  served log rs = after (object reduce kind) (only (λ h. eqb h t) (onObject o log)) rs
+  served log rs = after (object reduce kind) (only (one t) (onObject o log)) rs
 
   pub carried-rows : (log : List Logged) (s : Store) → o < length (s .objects) → objectOf (carriedOut t log s) o .rows ≡ served log (objectOf s o .rows)
   carried-rows [] s within = refl

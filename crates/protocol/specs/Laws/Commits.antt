@@ -10,19 +10,20 @@ use borrow.Author.Tests.{eq-eqb, ne-eqb}
 use lib.Dec.{eqb}
 use lib.ListN.{getD}
 use Rattle.operations.specs.Operations.{Kind, Row, Operation, Reply, reduceKey}
-use Rattle.operations.specs.Log.{ObjectType, Entry, Log, only, others, after}
+use Rattle.operations.specs.Log.{ObjectType, Entry, Log, only, one, others, after}
 use Rattle.operations.specs.Laws.Cases.{same, split}
 use Rattle.operations.specs.Laws.Objects.{object}
 use Rattle.store.specs.Store.{Logged, Store, Active, PseudoCommitted, Object, noObject, objectOf, onObject}
 use Rattle.store.specs.Dependency.{DependsOn, Ready, Way}
 use Rattle.store.specs.Layout.{Representable, base}
+use Rattle.store.specs.Soundness.{Unsettled}
 use Rattle.store.specs.Steps.{without}
 use Rattle.store.specs.Laws.Statuses.{active-apart, kind-within}
 use Rattle.store.specs.Laws.Ways.{way-monotone}
 use Rattle.store.specs.Laws.Cycles.{Anyone, LeadsToActive, leads-to-active}
-use Rattle.store.specs.Laws.Changes.{on-without}
+use Rattle.store.specs.Laws.Changes.{on-picked}
 use Rattle.protocol.specs.Ending.{ended, commit, Settlement, settlement, committedFirst, settledAll}
-use Rattle.protocol.specs.Terms.{Unsettled, LowestReady, Among, Distinct, inOrder, withoutAll}
+use Rattle.protocol.specs.Terms.{LowestReady, Among, Distinct, inOrder, withoutAll}
 use Rattle.protocol.specs.Laws.Ranks.{SameOrder, order-itself, ended-order}
 use Rattle.protocol.specs.Laws.Ending.{Left, ended-left, commit-left, commit-order, depends-left, ended-objects, commit-rows}
 use Rattle.protocol.specs.Laws.Settling.{all-settle, settled-kept}
@@ -55,7 +56,7 @@ Entries = List (Entry Operation Reply)
 in-order-append : (ts us : List ℕ) (l : Entries) → inOrder (ts ++ us) l ≡ inOrder ts l ++ inOrder us l
 in-order-append [] us l = refl
 in-order-append (t ∷ ts) us l =
-    ap (λ (m : Entries). only (λ h. eqb h t) l ++ m) (in-order-append ts us l) ∙ sym (append-assoc (only (λ h. eqb h t) l) (inOrder ts l) (inOrder us l))
+    ap (λ (m : Entries). only (one t) l ++ m) (in-order-append ts us l) ∙ sym (append-assoc (only (one t) l) (inOrder ts l) (inOrder us l))
 
 after-append : (X : ObjectType) (l m : Log X) (s : X .State) → after X (l ++ m) s ≡ after X m (after X l s)
 after-append X [] m s = refl
@@ -63,7 +64,7 @@ after-append X (e ∷ l) m s = after-append X l m (X .next (e .operation) s)
 
 -- Others keep their entries where t's are taken out.
 module _ (t : ℕ) where
-  only-apart : (u : ℕ) → (u ≡ t → ⊥) → (l : Entries) → only (λ h. eqb h u) (only (others (λ h. eqb h t)) l) ≡ only (λ h. eqb h u) l
+  only-apart : (u : ℕ) → (u ≡ t → ⊥) → (l : Entries) → only (one u) (only (others (one t)) l) ≡ only (one u) l
   only-apart u other [] = refl
   only-apart u other (e ∷ l) =
       same (e .transaction) t
@@ -74,7 +75,7 @@ module _ (t : ℕ) where
       (λ (b : eqb (e .transaction) u ≡ true). rw (ne-eqb (e .transaction) t apart, b) (ap (λ (m : Entries). e ∷ m) (only-apart u other l)))
       (λ (b : eqb (e .transaction) u ≡ false). rw (ne-eqb (e .transaction) t apart, b) (only-apart u other l)))
 
-  in-order-apart : (ts : List ℕ) → (Among t ts → ⊥) → (l : Entries) → inOrder ts (only (others (λ h. eqb h t)) l) ≡ inOrder ts l
+  in-order-apart : (ts : List ℕ) → (Among t ts → ⊥) → (l : Entries) → inOrder ts (only (others (one t)) l) ≡ inOrder ts l
   in-order-apart [] n l = refl
   in-order-apart (u ∷ ts) n l = rw (only-apart u (λ e. n (inl e)) l, in-order-apart ts (λ a. n (inr a)) l)
 
@@ -109,7 +110,7 @@ module _ (s : Store) (t : ℕ) (h : Unsettled base s) where
         order = commit-order s t (h .once);
         rows =
             λ o kind k. commit-rows s t kind o (kind-within s o kind k)
-            ∙ ap (λ (l : Entries). after (object reduceKey kind) l (objectOf s o .rows)) (sym (append-nil (only (λ h. eqb h t) (onObject o (s .log)))));
+            ∙ ap (λ (l : Entries). after (object reduceKey kind) l (objectOf s o .rows)) (sym (append-nil (only (one t) (onObject o (s .log)))));
       }
 
 -- ---- The commits of one call
@@ -166,7 +167,7 @@ module _ (s : Store) (t : ℕ) (own : List ℕ) (x : Store) (e : Ends s t own x)
       let X = object reduceKey kind in
       let l = onObject o (s .log) in
       let later = inOrder (r .committed) l in
-      let left = ap (onObject o) (e .left .log) ∙ on-without o t (s .log) in
+      let left = ap (onObject o) (e .left .log) ∙ on-picked (others (one t)) o (s .log) in
       h .rows o kind (e .left .kinds o ∙ k)
       ∙ ap (λ (m : Entries). after X m (objectOf x o .rows)) (ap (inOrder (r .committed)) left ∙ in-order-apart t (r .committed) over l)
       ∙ ap (λ (m : List Row). after X later m) (e .rows o kind k)
@@ -229,7 +230,7 @@ module _ (s : Store) (r : Representable base s) (h : Unsettled base s) where
       left-over : (LeadsToActive s u → ⊥) → PseudoCommitted (settledAll s .store) u → ⊥
       left-over n q =
           let k = settled-kept s r h in
-          leads-to-active (settledAll s .store) (k .1 .statuses) (k .0 .acyclic) (k .0 .dependent) u q
+          leads-to-active (settledAll s .store) (k .1 .statuses) (k .0 .unsettled .acyclic) (k .0 .dependent) u q
           (λ (w : LeadsToActive (settledAll s .store) u).
           n (
             w .0,

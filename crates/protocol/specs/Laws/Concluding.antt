@@ -14,6 +14,7 @@ use Rattle.store.specs.Store.{Logged, Store, Active, PseudoCommitted, objectOf,
 use Rattle.store.specs.Dependency.{DependsOn, Ready, Path}
 use Rattle.store.specs.Layout.{decode, Representable, base}
 use Rattle.store.specs.Decisions.{whetherSound}
+use Rattle.store.specs.Soundness.{Unsettled}
 use Rattle.store.specs.Steps.{without}
 use Rattle.store.specs.Theorems.{representable, decoded}
 use Rattle.store.specs.Laws.Any.{any-append}
@@ -22,8 +23,7 @@ use Rattle.store.specs.Laws.Cycles.{Anyone, LeadsToActive}
 use Rattle.protocol.specs.Replies.{Response, ok, answered, wait, finished, committed, circle, cancelled, counted, refused, Served}
 use Rattle.protocol.specs.Ending.{ended, commit, Settlement, settlement, committedFirst, settledAll}
 use Rattle.protocol.specs.Calls.{concluded, endReason, finish, cancel}
-use Rattle.protocol.specs.Terms.{Unsettled, EndAccepted, Among, Distinct, inOrder, withoutAll}
-use Rattle.protocol.specs.Laws.Unsettled.{unsettled}
+use Rattle.protocol.specs.Terms.{EndAccepted, Among, Distinct, inOrder, withoutAll}
 use Rattle.protocol.specs.Laws.Reasons.{end-accepted}
 use Rattle.protocol.specs.Laws.Ranks.{SameOrder, ended-count}
 use Rattle.protocol.specs.Laws.Ending.{ended-representable, ended-unsettled, commit-representable, commit-unsettled}
@@ -207,7 +207,7 @@ module _ (w : List ℕ) (t : ℕ) (list : List ℕ) (accepted : endReason base w
   fits = representable w (ending .sound .packed)
 
   sound : Unsettled base book
-  sound = unsettled base book (ending .sound .store)
+  sound = ending .sound .store .unsettled
 
   abbrev handed : List ℕ → Store → List ℕ
   handed own once = own ++ settledAll once .committed

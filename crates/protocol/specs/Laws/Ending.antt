@@ -7,35 +7,30 @@ use mathlib.Core.Option.{some, Option·some-injective}
 use mathlib.Core.List.{List, [], _∷_}
 use native.Mathlib.Nat.{le-refl}
 use native.Mathlib.Omega.{arith}
-use borrow.Author.Tests.{eqb-true, eqb-false}
+use borrow.Author.Tests.{eqb-true}
 use lib.Dec.{eqb}
 use lib.ListN.{length, getD, List·getD-eq-default}
 use Rattle.operations.specs.Operations.{Kind, Stack, Row, Reply, Operation, kindOf, reduceKey, next, WellFormed, All, StoredKey}
-use Rattle.operations.specs.Log.{ObjectType, Entry, EntryFits, Recovers, Recoverable, Answered, only, others, after}
+use Rattle.operations.specs.Log.{ObjectType, Entry, EntryFits, Recovers, Recoverable, Answered, only, one, others, after}
 use Rattle.operations.specs.Theorems.{dropping, committing}
-use Rattle.operations.specs.Laws.Cases.{split, same, all-map, all-map₂}
+use Rattle.operations.specs.Laws.Cases.{split, same, all-filter}
 use Rattle.operations.specs.Laws.Objects.{object, valid-next}
-use Rattle.operations.specs.Laws.Recoverability.{all-only}
+use Rattle.operations.specs.Laws.Tables.{differ}
 use Rattle.store.specs.Store.{Status, absent, active, pseudoCommitted, Object, noObject, Logged, Store, statusOf, objectOf, Live, Active, PseudoCommitted, onObject}
 use Rattle.store.specs.Dependency.{DependsOn, Ready}
 use Rattle.store.specs.Layout.{Representable, additions, base}
-use Rattle.store.specs.Soundness.{EntriesLive, EntriesFit, OnceEach, WithoutGaps, Acyclic}
+use Rattle.store.specs.Soundness.{EntriesLive, EntriesFit, OnceEach, WithoutGaps, Acyclic, Unsettled}
 use Rattle.store.specs.Steps.{without, dropped, withStatus, lowered}
 use Rattle.store.specs.Theorems.{depends-on-nobody}
 use Rattle.store.specs.Laws.Statuses.{absent-inactive, absent-unranked, active-unranked, kind-within}
 use Rattle.store.specs.Laws.Capacity.{grows, additions-first}
-use Rattle.store.specs.Laws.Changes.{status-other, status-removed, status-closed, all-without, on-without, representable-status, representable-closed, representable-dropped}
+use Rattle.store.specs.Laws.Changes.{status-other, status-removed, status-closed, on-picked, representable-status, representable-closed, representable-dropped}
 use Rattle.store.specs.Laws.Edges.{depends-without}
 use Rattle.store.specs.Laws.Ways.{way-monotone}
 use Rattle.store.specs.Laws.Words.{below}
 use Rattle.protocol.specs.Ending.{carriedOut, ended, commit}
-use Rattle.protocol.specs.Terms.{Unsettled}
 use Rattle.protocol.specs.Laws.Ranks.{SameOrder, closed-any, ended-order, ended-once, ended-gapless}
 use Rattle.protocol.specs.Laws.Carrying.{carried-status, carried-log, carried-kind, carried-objects, carried-rows, carried-representable}
-
--- The test for a transaction's own entries.
-abbrev own : ℕ → ℕ → Bool
-own t h = eqb h t
 
 -- ---- Some of one object's entries
 
@@ -47,14 +42,11 @@ module _ (picked : ℕ → Bool) where
     abbrev X : ObjectType
     X = object reduce kind
 
-    some-left : (P : Entry Operation Reply → Type 0) (l : Entries) → All P l → All P (only picked l)
-    some-left P l a = all-only X picked {P = P} {Q = P} (λ e p own. p) l a
-
     recoverable-only : (l : Entries) → Recoverable X l → Recoverable X (only picked l)
     recoverable-only [] r = tt
     recoverable-only (e ∷ l) r =
         let rest = recoverable-only l (r .1) in
-        split (picked (e .transaction)) (λ (k : picked (e .transaction) ≡ true). rw k (some-left (Recovers X e) l (r .0), rest))
+        split (picked (e .transaction)) (λ (k : picked (e .transaction) ≡ true). rw k (all-filter {Q = Recovers X e} (λ x h q. h) l (r .0), rest))
         (λ (k : picked (e .transaction) ≡ false). rw k rest)
 
   -- Additions are those of the picked and those of the others.
@@ -81,7 +73,7 @@ FitsObject s l = objectOf s (l .object) .kind ≡ some (kindOf (l .entry .operat
 
 -- An object's entries fit its kind.
 module _ (s : Store) (o : ℕ) (kind : Kind) (e : objectOf s o .kind ≡ some kind) where
-  entries-fit : (log : List Logged) → All (FitsObject s) log → All (λ (l : Logged). StoredKey reduceKey (l .entry .operation)) log
+  pub entries-fit : (log : List Logged) → All (FitsObject s) log → All (λ (l : Logged). StoredKey reduceKey (l .entry .operation)) log
       → All (EntryFits (object reduceKey kind)) (onObject o log)
   entries-fit [] f r = tt
   entries-fit (l ∷ log) f r =
@@ -132,16 +124,16 @@ module _ (s : Store) (t : ℕ) where
   carriedIn = carriedOut t (s .log) s
 
   pub commit-rows : (kind : Kind) (o : ℕ) → o < length (s .objects)
-      → objectOf (commit t s) o .rows ≡ after (object reduceKey kind) (only (own t) (onObject o (s .log))) (objectOf s o .rows)
+      → objectOf (commit t s) o .rows ≡ after (object reduceKey kind) (only (one t) (onObject o (s .log))) (objectOf s o .rows)
   commit-rows kind o within =
       ap (λ (xs : List Object). getD xs o noObject .rows) (ended-objects carriedIn t) ∙ carried-rows reduceKey kind t o (s .log) s within
 
   -- Rows of any kind grow so.
-  commit-grown : (o : ℕ) → length (objectOf (commit t s) o .rows) ≤ length (objectOf s o .rows) + additions (only (own t) (onObject o (s .log)))
+  commit-grown : (o : ℕ) → length (objectOf (commit t s) o .rows) ≤ length (objectOf s o .rows) + additions (only (one t) (onObject o (s .log)))
   commit-grown o =
       below o (length (s .objects))
       (λ (within : o < length (s .objects)).
-      rw (commit-rows Stack o within) (after-grows reduceKey Stack (only (own t) (onObject o (s .log))) (objectOf s o .rows)))
+      rw (commit-rows Stack o within) (after-grows reduceKey Stack (only (one t) (onObject o (s .log))) (objectOf s o .rows)))
       (λ (past : length (s .objects) ≤ o).
       let none : objectOf carriedIn o ≡ noObject = List·getD-eq-default (carriedIn .objects) noObject (omega (arith, carried-objects t (s .log) s)) in
       rw (ended-objects carriedIn t, none) (omega arith))
@@ -216,32 +208,23 @@ module _ (s : Store) (t : ℕ) (once : OnceEach s) where
 
 -- ---- Soundness of what is left
 
-others-left : (t : ℕ) (log : List Logged) → All (λ (l : Logged). l .entry .transaction ≡ t → ⊥) (without t log)
-others-left t [] = tt
-others-left t (l ∷ log) =
-    split (eqb (l .entry .transaction) t) (λ (e : eqb (l .entry .transaction) t ≡ true). rw e (others-left t log))
-    (λ (e : eqb (l .entry .transaction) t ≡ false). rw e (eqb-false (l .entry .transaction) t e, others-left t log))
-
 module _ (s : Store) (t : ℕ) (x : Store) (left : Left s t x) where
   pub depends-left : (a b : ℕ) → DependsOn (x .log) a b ↔ (DependsOn (s .log) a b × (a ≡ t → ⊥) × (b ≡ t → ⊥))
   depends-left a b = rw (left .log) (depends-without t a b (s .log))
 
 module _ (s : Store) (t : ℕ) (x : Store) (left : Left s t x) (u : Unsettled base s) where
-  on-left : (o : ℕ) → onObject o (x .log) ≡ only (others (own t)) (onObject o (s .log))
-  on-left o = ap (onObject o) (left .log) ∙ on-without o t (s .log)
+  on-left : (o : ℕ) → onObject o (x .log) ≡ only (others (one t)) (onObject o (s .log))
+  on-left o = ap (onObject o) (left .log) ∙ on-picked (others (one t)) o (s .log)
 
   left-live : EntriesLive x
   left-live =
       rw (left .log)
-      (all-map₂ {R = λ (l : Logged). Live x (l .entry .transaction)}
-      (λ (l : Logged) (other : l .entry .transaction ≡ t → ⊥) (h : Live s (l .entry .transaction)). left .live (l .entry .transaction) .1 (other, h))
-      (without t (s .log)) (others-left t (s .log)) (all-without (λ (l : Logged). Live s (l .entry .transaction)) t (s .log) (u .live)))
+      (all-filter {Q = λ (l : Logged). Live x (l .entry .transaction)}
+      (λ (l : Logged) (h : Live s (l .entry .transaction)) k. left .live (l .entry .transaction) .1 (differ (l .entry .transaction) t k, h)) (s .log) (u .live))
 
   left-fits : EntriesFit x
   left-fits =
-      rw (left .log)
-      (all-map {Q = FitsObject x} (λ (l : Logged) (e : FitsObject s l). left .kinds (l .object) ∙ e) (without t (s .log))
-      (all-without (FitsObject s) t (s .log) (u .fits)))
+      rw (left .log) (all-filter {Q = FitsObject x} (λ (l : Logged) (e : FitsObject s l) k. left .kinds (l .object) ∙ e) (s .log) (u .fits))
 
   left-acyclic : Acyclic x
   left-acyclic h p way =
@@ -252,20 +235,20 @@ module _ (s : Store) (t : ℕ) (x : Store) (left : Left s t x) (u : Unsettled ba
 
   -- Where its rows are formed, give those left their answers, and grew by no more than the transaction added, the store is sound but for the ready.
   left-unsettled : ((o : ℕ) (kind : Kind) → objectOf s o .kind ≡ some kind
-      → WellFormed reduceKey kind (objectOf x o .rows) × Answered (object reduceKey kind) (only (others (own t)) (onObject o (s .log))) (objectOf x o .rows))
-      → ((o : ℕ) → length (objectOf x o .rows) ≤ length (objectOf s o .rows) + additions (only (own t) (onObject o (s .log))))
+      → WellFormed reduceKey kind (objectOf x o .rows) × Answered (object reduceKey kind) (only (others (one t)) (onObject o (s .log))) (objectOf x o .rows))
+      → ((o : ℕ) → length (objectOf x o .rows) ≤ length (objectOf s o .rows) + additions (only (one t) (onObject o (s .log))))
       → OnceEach x → WithoutGaps x → Unsettled base x
   left-unsettled objects grown once gapless =
       record {
         rows = λ o kind e. objects o kind (sym (left .kinds o) ∙ e) .0;
         live = left-live;
         fits = left-fits;
-        reduced = rw (left .log) (all-without (λ (l : Logged). StoredKey reduceKey (l .entry .operation)) t (s .log) (u .reduced));
+        reduced = rw (left .log) (all-filter {Q = λ (l : Logged). StoredKey reduceKey (l .entry .operation)} (λ l r k. r) (s .log) (u .reduced));
         recoverable =
             λ o kind e.
-            rw (on-left o) (recoverable-only (others (own t)) reduceKey kind (onObject o (s .log)) (u .recoverable o kind (sym (left .kinds o) ∙ e)));
+            rw (on-left o) (recoverable-only (others (one t)) reduceKey kind (onObject o (s .log)) (u .recoverable o kind (sym (left .kinds o) ∙ e)));
         answered = λ o kind e. rw (on-left o) (objects o kind (sym (left .kinds o) ∙ e) .1);
-        room = λ o. rw (on-left o) (omega (arith, u .room o, grown o, additions-parted (own t) (onObject o (s .log))));
+        room = λ o. rw (on-left o) (omega (arith, u .room o, grown o, additions-parted (one t) (onObject o (s .log))));
         once = once;
         gapless = gapless;
         acyclic = left-acyclic;
@@ -281,7 +264,7 @@ module _ (s : Store) (t : ℕ) (u : Unsettled base s) where
       left-unsettled s t (ended t s) (ended-left s t) u
       (λ o kind e. rw (ended-objects s t) (
         u .rows o kind e,
-        dropping reduceKey kind (onObject o (s .log)) (objectOf s o .rows) (u .rows o kind e) (fitting o kind e) (others (own t)) (u .recoverable o kind e)
+        dropping reduceKey kind (onObject o (s .log)) (objectOf s o .rows) (u .rows o kind e) (fitting o kind e) (others (one t)) (u .recoverable o kind e)
             (u .answered o kind e),
       ))
       (λ o. rw (ended-objects s t) (omega arith)) (ended-once s t (u .once)) (ended-gapless s t (u .once) (u .gapless))
@@ -291,9 +274,9 @@ module _ (s : Store) (t : ℕ) (u : Unsettled base s) where
   commit-unsettled ready =
       left-unsettled s t (commit t s) (commit-left s t) u
       (λ o kind e. rw (commit-rows s t kind o (kind-within s o kind e)) (
-        after-formed reduceKey kind (only (own t) (onObject o (s .log))) (objectOf s o .rows)
-            (some-left (own t) reduceKey kind (EntryFits (object reduceKey kind)) (onObject o (s .log)) (fitting o kind e)) (u .rows o kind e),
-        committing reduceKey kind (onObject o (s .log)) (objectOf s o .rows) (u .rows o kind e) (fitting o kind e) (own t)
+        after-formed reduceKey kind (only (one t) (onObject o (s .log))) (objectOf s o .rows)
+            (all-filter {Q = EntryFits (object reduceKey kind)} (λ x fits k. fits) (onObject o (s .log)) (fitting o kind e)) (u .rows o kind e),
+        committing reduceKey kind (onObject o (s .log)) (objectOf s o .rows) (u .rows o kind e) (fitting o kind e) (one t)
             (depends-on-nobody reduceKey kind t (s .log) .0 ready o) (u .answered o kind e) .2,
       ))
       (commit-grown s t) (ended-once (carriedIn s t) t (carried-once s t (u .once)))

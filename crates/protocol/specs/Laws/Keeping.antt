@@ -15,7 +15,7 @@ use Rattle.operations.specs.Laws.Objects.{object}
 use Rattle.store.specs.Store.{Status, absent, active, pseudoCommitted, Object, Logged, Store, statusOf, objectOf, Live, Active, PseudoCommitted, pseudoCommittedCount, onObject}
 use Rattle.store.specs.Dependency.{Conflict, DependsOn, Ready, Path, OnCycle}
 use Rattle.store.specs.Layout.{readKind, ObjectFits, Representable, adds, additions, base}
-use Rattle.store.specs.Soundness.{OnceEach, WithoutGaps, Acyclic, Dependent, SoundStore}
+use Rattle.store.specs.Soundness.{OnceEach, WithoutGaps, Acyclic, Dependent, Unsettled, SoundStore}
 use Rattle.store.specs.Steps.{withStatus}
 use Rattle.store.specs.Theorems.{cycle-any-length}
 use Rattle.store.specs.Laws.Words.{below}
@@ -40,7 +40,7 @@ module _ (kinds : List ℕ) where
   abbrev read : ℕ → Object
   read k = record { kind = readKind k; rows = [] }
 
-  nothing : Empty (empty kinds)
+  pub nothing : Empty (empty kinds)
   nothing =
       record {
         log = refl;
@@ -71,22 +71,24 @@ set-either (y ∷ xs) (suc i) x d zero = inr refl
 set-either (y ∷ xs) (suc i) x d (suc j) = set-either xs i x d j
 
 -- Objects and log stay, and with them all that is said of them alone.
-status-sound : (s : Store) (t : ℕ) (status : Status) → SoundStore base s → ((u : ℕ) → Live s u → Live (withStatus t status s) u)
+status-sound : (s : Store) (t : ℕ) (status : Status) → Unsettled base s → ((u : ℕ) → Live s u → Live (withStatus t status s) u)
     → OnceEach (withStatus t status s) → WithoutGaps (withStatus t status s) → Acyclic (withStatus t status s) → Dependent (withStatus t status s)
     → SoundStore base (withStatus t status s)
 status-sound s t status h live once gapless acyclic dependent =
     record {
-      rows = h .rows;
-      live = all-map {Q = λ (l : Logged). Live (withStatus t status s) (l .entry .transaction)} (λ (l : Logged) alive. live (l .entry .transaction) alive)
-          (s .log) (h .live);
-      fits = h .fits;
-      reduced = h .reduced;
-      recoverable = h .recoverable;
-      answered = h .answered;
-      room = h .room;
-      once = once;
-      gapless = gapless;
-      acyclic = acyclic;
+      unsettled = record {
+        rows = h .rows;
+        live = all-map {Q = λ (l : Logged). Live (withStatus t status s) (l .entry .transaction)} (λ (l : Logged) alive. live (l .entry .transaction) alive)
+            (s .log) (h .live);
+        fits = h .fits;
+        reduced = h .reduced;
+        recoverable = h .recoverable;
+        answered = h .answered;
+        room = h .room;
+        once = once;
+        gapless = gapless;
+        acyclic = acyclic;
+      };
       dependent = dependent;
     }
 
@@ -108,13 +110,13 @@ module _ (s : Store) (t : ℕ) (h : SoundStore base s) (new : statusOf s t ≡ a
 
   pub begun-sound : SoundStore base begun
   begun-sound =
-      status-sound s t active h begun-live
-      (λ a u rank e f. h .once a u rank (rank-before a rank e) (rank-before u rank f))
+      status-sound s t active (h .unsettled) begun-live
+      (λ a u rank e f. h .unsettled .once a u rank (rank-before a rank e) (rank-before u rank f))
       (λ a rank lower e l.
-      let w = h .gapless a rank lower (rank-before a rank e) l in
+      let w = h .unsettled .gapless a rank lower (rank-before a rank e) l in
       (w .0, begun-other (w .0) (pseudo-committed-live s (w .0) (lower, w .1)) ∙ w .1))
       (λ a p w.
-      h .acyclic a (p .0, rank-before a (p .0) (p .1))
+      h .unsettled .acyclic a (p .0, rank-before a (p .0) (p .1))
       (widened (DependsOn (s .log)) (PseudoCommitted begun) (PseudoCommitted s) (λ c q. (q .0, rank-before c (q .0) (q .1))) 64 a a w))
       (λ a p. let d = h .dependent a (p .0, rank-before a (p .0) (p .1)) in (d .0, begun-live (d .0) (d .1), d .2))
 
@@ -185,37 +187,40 @@ module _ (s : Store) (t o : ℕ) (requested : Operation) (h : SoundStore base s)
       → SoundStore base longer
   entered-sound stored room free =
       let own : List (Entry Operation Reply) = onObject o (s .log) in
+      let u = h .unsettled in
       record {
-        rows = h .rows;
-        live = all-append (λ (l : Logged). Live longer (l .entry .transaction)) (s .log) (last ∷ []) (h .live)
-            (active-live s t is-active, tt);
-        fits = all-append (λ (l : Logged). objectOf s (l .object) .kind ≡ some (kindOf (l .entry .operation))) (s .log) (last ∷ []) (h .fits) (kinded, tt);
-        reduced = all-append (λ (l : Logged). StoredKey reduceKey (l .entry .operation)) (s .log) (last ∷ []) (h .reduced) (stored, tt);
-        recoverable = λ p kind k.
-            on-last (Recoverable (object reduceKey kind)) p (s .log) last
-            (λ (e : o ≡ p).
-            own-kind (λ x j. Recoverable (object reduceKey j) (onObject x (s .log) ++ (last .entry ∷ [])))
-            (recoverable-last (object reduceKey (kindOf requested)) own (last .entry) (h .recoverable o (kindOf requested) kinded)
-            (unblocked (kindOf requested) (last .entry) own free)) p kind e k)
-            (h .recoverable p kind k);
-        answered = λ p kind k.
-            on-last (λ (l : List (Entry Operation Reply)). Answered (object reduceKey kind) l (objectOf s p .rows)) p (s .log) last
-            (λ (e : o ≡ p).
-            own-kind (λ x j. Answered (object reduceKey j) (onObject x (s .log) ++ (last .entry ∷ [])) (objectOf s x .rows))
-            (answered-last (object reduceKey (kindOf requested)) own (last .entry) (objectOf s o .rows) (h .answered o (kindOf requested) kinded) refl)
-            p kind e k)
-            (h .answered p kind k);
-        room = λ p.
-            on-last (λ (l : List (Entry Operation Reply)). length (objectOf s p .rows) + additions l ≤ 64) p (s .log) last
-            (λ (e : o ≡ p).
-            subst (λ (x : ℕ). length (objectOf s x .rows) + additions (onObject x (s .log) ++ (last .entry ∷ [])) ≤ 64) e
-            (split (adds requested)
-            (λ (b : adds requested ≡ true). omega (arith, additions-last own (last .entry), room b, ap one b))
-            (λ (b : adds requested ≡ false). omega (arith, additions-last own (last .entry), h .room o, ap one b))))
-            (h .room p);
-        once = h .once;
-        gapless = h .gapless;
-        acyclic = λ a p w. h .acyclic a p (way-kept (DependsOn (longer .log)) (DependsOn (s .log)) (PseudoCommitted s) depends-before 64 a a p w);
+        unsettled = record {
+          rows = u .rows;
+          live = all-append (λ (l : Logged). Live longer (l .entry .transaction)) (s .log) (last ∷ []) (u .live)
+              (active-live s t is-active, tt);
+          fits = all-append (λ (l : Logged). objectOf s (l .object) .kind ≡ some (kindOf (l .entry .operation))) (s .log) (last ∷ []) (u .fits) (kinded, tt);
+          reduced = all-append (λ (l : Logged). StoredKey reduceKey (l .entry .operation)) (s .log) (last ∷ []) (u .reduced) (stored, tt);
+          recoverable = λ p kind k.
+              on-last (Recoverable (object reduceKey kind)) p (s .log) last
+              (λ (e : o ≡ p).
+              own-kind (λ x j. Recoverable (object reduceKey j) (onObject x (s .log) ++ (last .entry ∷ [])))
+              (recoverable-last (object reduceKey (kindOf requested)) own (last .entry) (u .recoverable o (kindOf requested) kinded)
+              (unblocked (kindOf requested) (last .entry) own free)) p kind e k)
+              (u .recoverable p kind k);
+          answered = λ p kind k.
+              on-last (λ (l : List (Entry Operation Reply)). Answered (object reduceKey kind) l (objectOf s p .rows)) p (s .log) last
+              (λ (e : o ≡ p).
+              own-kind (λ x j. Answered (object reduceKey j) (onObject x (s .log) ++ (last .entry ∷ [])) (objectOf s x .rows))
+              (answered-last (object reduceKey (kindOf requested)) own (last .entry) (objectOf s o .rows) (u .answered o (kindOf requested) kinded) refl)
+              p kind e k)
+              (u .answered p kind k);
+          room = λ p.
+              on-last (λ (l : List (Entry Operation Reply)). length (objectOf s p .rows) + additions l ≤ 64) p (s .log) last
+              (λ (e : o ≡ p).
+              subst (λ (x : ℕ). length (objectOf s x .rows) + additions (onObject x (s .log) ++ (last .entry ∷ [])) ≤ 64) e
+              (split (adds requested)
+              (λ (b : adds requested ≡ true). omega (arith, additions-last own (last .entry), room b, ap one b))
+              (λ (b : adds requested ≡ false). omega (arith, additions-last own (last .entry), u .room o, ap one b))))
+              (u .room p);
+          once = u .once;
+          gapless = u .gapless;
+          acyclic = λ a p w. u .acyclic a p (way-kept (DependsOn (longer .log)) (DependsOn (s .log)) (PseudoCommitted s) depends-before 64 a a p w);
+        };
         dependent = λ a p. let d = h .dependent a p in (d .0, d .1, depends-appended a (d .0) last (s .log) .1 (inl (d .2)));
       }
 
@@ -254,7 +259,7 @@ module _ (s : Store) (t : ℕ) (r : Representable base s) (h : SoundStore base s
       finished-other u (active-apart s t u is-active (rank, e)) ∙ e
 
   counted : (rank : ℕ) → (rank < count) ↔ ((u : ℕ) × (statusOf s u ≡ pseudoCommitted rank))
-  counted = ranks-counted s (h .once) (h .gapless)
+  counted = ranks-counted s (h .unsettled .once) (h .unsettled .gapless)
 
   finished-once : OnceEach finished
   finished-once a u rank e f =
@@ -262,7 +267,7 @@ module _ (s : Store) (t : ℕ) (r : Representable base s) (h : SoundStore base s
       (λ x.
       ⊎-elim (λ y. x .0 ∙ sym (y .0)) (λ y. absurd (omega (arith, x .1, counted rank .1 (u, y .1)))) (rank-after u rank f))
       (λ x.
-      ⊎-elim (λ y. absurd (omega (arith, y .1, counted rank .1 (a, x .1)))) (λ y. h .once a u rank (x .1) (y .1)) (rank-after u rank f))
+      ⊎-elim (λ y. absurd (omega (arith, y .1, counted rank .1 (a, x .1)))) (λ y. h .unsettled .once a u rank (x .1) (y .1)) (rank-after u rank f))
       (rank-after a rank e)
 
   finished-gapless : WithoutGaps finished
@@ -280,7 +285,7 @@ module _ (s : Store) (t : ℕ) (r : Representable base s) (h : SoundStore base s
       let Edge : ℕ → ℕ → Type 0 = DependsOn (s .log) in
       let Now : ℕ → Type 0 = PseudoCommitted finished in
       ⊎-elim
-      (λ (v : OnCycle s a). same a t (λ (e : a ≡ t). off (subst (OnCycle s) e v)) (λ (n : a ≡ t → ⊥). h .acyclic a (before a p n) v))
+      (λ (v : OnCycle s a). same a t (λ (e : a ≡ t). off (subst (OnCycle s) e v)) (λ (n : a ≡ t → ⊥). h .unsettled .acyclic a (before a p n) v))
       (λ (v : Path Edge Now a t × Path Edge Now t a).
       let round : Path Edge Now t t = joined Edge Now (v .1 .0) t a t (v .1 .1) p (v .0) in
       off (cycle-any-length s (r .statuses) t (omega (arith, within, r .statuses)) .1
@@ -292,9 +297,10 @@ module _ (s : Store) (t : ℕ) (r : Representable base s) (h : SoundStore base s
       same a t
       (λ (e : a ≡ t).
       let d = depends-on-some (s .log) t depends in
-      (d .0, finished-live (d .0) (depended-on (Live s) t (d .0) (s .log) (h .live) (d .1)), subst (λ (x : ℕ). DependsOn (s .log) x (d .0)) (sym e) (d .1)))
+      let live = depended-on (Live s) t (d .0) (s .log) (h .unsettled .live) (d .1) in
+      (d .0, finished-live (d .0) live, subst (λ (x : ℕ). DependsOn (s .log) x (d .0)) (sym e) (d .1)))
       (λ (n : a ≡ t → ⊥). let d = h .dependent a (before a p n) in (d .0, finished-live (d .0) (d .1), d .2))
 
   pub pseudo-committed-sound : (OnCycle s t → ⊥) → (Ready (s .log) t → ⊥) → SoundStore base finished
   pseudo-committed-sound off depends =
-      status-sound s t (pseudoCommitted count) h finished-live finished-once finished-gapless (finished-acyclic off) (finished-dependent depends)
+      status-sound s t (pseudoCommitted count) (h .unsettled) finished-live finished-once finished-gapless (finished-acyclic off) (finished-dependent depends)

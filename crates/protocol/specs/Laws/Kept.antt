@@ -7,7 +7,7 @@ use lib.ListN.{length}
 use Rattle.operations.specs.Operations.{Operation}
 use Rattle.store.specs.Store.{active, pseudoCommitted, Store, objectOf, Active, pseudoCommittedCount, onObject}
 use Rattle.store.specs.Layout.{encode, decode, joined, rowWords, Representable, base}
-use Rattle.store.specs.Soundness.{SoundStore, Sound}
+use Rattle.store.specs.Soundness.{Unsettled, SoundStore, Sound}
 use Rattle.store.specs.Steps.{withStatus}
 use Rattle.store.specs.Theorems.{representable, decoded, packed}
 use Rattle.store.specs.Laws.Changes.{representable-status, representable-appended}
@@ -15,8 +15,7 @@ use Rattle.protocol.specs.Replies.{ok, counted, cancelled, outcome, Serv
 use Rattle.protocol.specs.Ending.{ended, commit, settledAll}
 use Rattle.protocol.specs.Calls.{unless, empty, blocker, request, answerTo, entered, respond, concluded, finishActive, setUpReason, setUp, beginReason, begin, operateReason, operate, endReason, finish, cancel, contentsReason, contents}
 use Rattle.protocol.specs.Call as calling
-use Rattle.protocol.specs.Terms.{Unsettled, OperateAccepted}
-use Rattle.protocol.specs.Laws.Unsettled.{unsettled}
+use Rattle.protocol.specs.Terms.{OperateAccepted}
 use Rattle.protocol.specs.Laws.Ending.{ended-representable, ended-unsettled, commit-representable, commit-unsettled}
 use Rattle.protocol.specs.Laws.Settling.{settled-kept}
 use Rattle.protocol.specs.Laws.Keeping.{emptied-sound, begun-sound, entered-sound, pseudo-committed-sound}
@@ -94,16 +93,13 @@ settled-encoded : (s : Store) → Representable base s → Unsettled base s → 
 settled-encoded s r u = let k = settled-kept s r u in encoded-sound (settledAll s .store) (k .1) (k .0)
 
 module _ (s : Store) (t : ℕ) (r : Representable base s) (h : SoundStore base s) where
-  before : Unsettled base s
-  before = unsettled base s h
-
   ended-encoded : Sound base (encode base (settledAll (ended t s) .store))
-  ended-encoded = settled-encoded (ended t s) (ended-representable s t r) (ended-unsettled s t before)
+  ended-encoded = settled-encoded (ended t s) (ended-representable s t r) (ended-unsettled s t (h .unsettled))
 
   finished-sound : Active s t → (list : List ℕ) → Sound base (finishActive base s t list .book)
   finished-sound is-active list =
       finish-by s t list (λ (r : Served). Sound base (r .book)) (λ c. ended-encoded)
-      (λ c. settled-encoded (commit t s) (commit-representable s t r before) (commit-unsettled s t before (c .1)))
+      (λ c. settled-encoded (commit t s) (commit-representable s t r (h .unsettled)) (commit-unsettled s t (h .unsettled) (c .1)))
       (λ c.
       encoded-sound (withStatus t (pseudoCommitted (pseudoCommittedCount s)) s) (representable-status s r t (pseudoCommitted (pseudoCommittedCount s)))
       (pseudo-committed-sound s t r h is-active (c .0) (c .1)))

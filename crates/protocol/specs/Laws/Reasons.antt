@@ -48,7 +48,7 @@ unless-accepted n w list s e = ap (λ (m : ℕ). unless m w list s) e
 -- ---- What each says where it does not apply
 
 module _ (format : Format) (whetherSound : (w : List ℕ) → Dec (Sound format w)) (w : List ℕ) where
-  found-sound : Sound format w → unsound whetherSound w ≡ false
+  pub found-sound : Sound format w → unsound whetherSound w ≡ false
   found-sound h = ap not (decide-iff (whetherSound w) .1 h)
 
   is-sound : unsound whetherSound w ≡ false → Sound format w
@@ -187,7 +187,7 @@ module _ (format : Format) where
 
 -- ---- Where no reason applies
 
-of-length : (w : List ℕ) → length w ≡ 3_937 → wrongLength w ≡ false
+pub of-length : (w : List ℕ) → length w ≡ 3_937 → wrongLength w ≡ false
 of-length w e = ap not (eq-eqb (length w) 3_937 e)
 
 at-most : (n : ℕ) (kinds : List ℕ) → All (λ k. k ≤ n) kinds → someAbove n kinds ≡ false

@@ -14,7 +14,7 @@ use Rattle.store.specs.Store.{Status, absent, active, pseudoCommitted, Store, s
 use Rattle.store.specs.Dependency.{Ready}
 use Rattle.store.specs.Layout.{Representable, base}
 use Rattle.store.specs.Decisions.{whetherReady}
-use Rattle.store.specs.Soundness.{OnceEach, WithoutGaps, Dependent, SoundStore}
+use Rattle.store.specs.Soundness.{OnceEach, WithoutGaps, Dependent, Unsettled, SoundStore}
 use Rattle.store.specs.Laws.Dependencies.{depended-on}
 use Rattle.store.specs.Laws.Statuses.{absent-unranked, active-unranked, same-rank, pseudo-committed-within}
 use Rattle.store.specs.Laws.Graph.{depends-on-some}
@@ -23,8 +23,7 @@ use Rattle.protocol.specs.Ending.{carriedOut, commit, orElse, firstBelow
 use Rattle.protocol.specs.Laws.Ranks.{rank-below, count-falls, ended-count}
 use Rattle.protocol.specs.Laws.Carrying.{carried-statuses}
 use Rattle.protocol.specs.Laws.Ending.{commit-representable, commit-unsettled}
-use Rattle.protocol.specs.Terms.{Unsettled, LowestReady}
-use Rattle.protocol.specs.Laws.Unsettled.{settled-sound}
+use Rattle.protocol.specs.Terms.{LowestReady}
 
 -- ---- The first that is given
 
@@ -196,7 +195,7 @@ module _ (P : Store → Settlement → Type 0)
 pub settled-kept : (s : Store) → Representable base s → Unsettled base s → SoundStore base (settledAll s .store) × Representable base (settledAll s .store)
 settled-kept =
     all-settle (λ (s : Store) (r : Settlement). SoundStore base (r .store) × Representable base (r .store))
-    (λ s r h e. (settled-sound base s h (dependent s r h e), r)) (λ s t h w r kept. kept)
+    (λ s r h e. (record { unsettled = h; dependent = dependent s r h e }, r)) (λ s t h w r kept. kept)
   where
     dependent : (s : Store) → Representable base s → Unsettled base s → lowestReady s ≡ none → Dependent s
     dependent s r h e t p =

@@ -6,7 +6,6 @@ use Rattle.store.specs.Layout.{base, decode}
 use Rattle.store.specs.Decisions.{whetherSound}
 use Rattle.store.specs.Theorems.{representable}
 use Rattle.protocol.specs.Ending.{ended}
-use Rattle.protocol.specs.Laws.Unsettled.{unsettled}
 use Rattle.protocol.specs.Laws.Ranks.{ended-count}
 use Rattle.protocol.specs.Laws.Settling.{settled-few}
 use Rattle.protocol.specs.Terms.{EndAccepted}
@@ -33,7 +32,7 @@ abort-requires c κs =
     let past = c .before .before .before in
     let a = is-accepted past in
     let examined = past .before .before .before .examined .ensures in
-    (record { packed = a .sound .packed; unsettled = unsettled base _ (a .sound .store); edges = examined .1 (examined .0 .1 (a .sound)) .1 }, a .active, a .fits)
+    (record { packed = a .sound .packed; unsettled = a .sound .store .unsettled; edges = examined .1 (examined .0 .1 (a .sound)) .1 }, a .active, a .fits)
 
 cast : tie.Need-cast-t18
 cast c =

@@ -15,7 +15,6 @@ use Rattle.sound.specs.Laws.{cycle-said}
 use Rattle.ending.specs.Ending.{Tracked}
 use Rattle.ending.specs.Laws.Ready.{ready-tested}
 use Rattle.protocol.specs.Ending.{ended, commit}
-use Rattle.protocol.specs.Laws.Unsettled.{unsettled}
 use Rattle.protocol.specs.Laws.Ranks.{count-within, ended-count}
 use Rattle.protocol.specs.Laws.Settling.{commit-count, settled-few}
 use Rattle.protocol.specs.Terms.{EndAccepted}
@@ -49,7 +48,7 @@ sets c = let e = c .before .before .before .examined .ensures in e .1 (e .0 .1 (
 tracked : (c : tie.Else1) → Tracked (start c .args .book .now) (c .before .before .before .examined .result .dependencies)
 tracked c =
     let sound = is-accepted c .sound in
-    record { packed = sound .packed; unsettled = unsettled base (store c) (sound .store); edges = sets c .1 }
+    record { packed = sound .packed; unsettled = sound .store .unsettled; edges = sets c .1 }
 
 within : (c : tie.Else1) → length (store c .statuses) ≡ 64
 within c = representable (start c .args .book .now) (is-accepted c .sound .packed) .statuses

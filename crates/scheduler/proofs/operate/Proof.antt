@@ -46,7 +46,7 @@ blocker-requires : tie.Need-blocker-requires
 blocker-requires c κs =
     let past = c .before .before in
     let a = is-accepted past in
-    (a .sound .packed, a .sound .store .live, a .sound .store .fits, within past, (requested past, c .before .request .ensures, a .kind))
+    (a .sound .packed, a .sound .store .unsettled .live, a .sound .store .unsettled .fits, within past, (requested past, c .before .request .ensures, a .kind))
 
 waits : tie.Need-returns-2
 waits c =
@@ -61,7 +61,7 @@ answer-requires : tie.Need-answer-requires
 answer-requires c κs =
     let past = c .before .before .before .before .before .before in
     let a = is-accepted past in
-    (a .sound .packed, subst (λ (n : ℕ). n < 16) (sym (c .wide .ensures)) (within past), a .sound .store .room)
+    (a .sound .packed, subst (λ (n : ℕ). n < 16) (sym (c .wide .ensures)) (within past), a .sound .store .unsettled .room)
 
 append-requires : tie.Need-append-requires
 append-requires c κs =

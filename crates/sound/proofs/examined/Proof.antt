@@ -51,14 +51,15 @@ formed-requires : tie.Need-formed-requires
 formed-requires c κs = let p = is-packed c in (p .words, p .objects)
 
 unformed : tie.Need-returns-2
-unformed c = unsound (c .before .formed .ensures) (not-true _ (c .if2 .taken)) (λ (s : Sound base _). s .store .rows)
+unformed c = unsound (c .before .formed .ensures) (not-true _ (c .if2 .taken)) (λ (s : Sound base _). s .store .unsettled .rows)
 
 statuses-requires : tie.Need-statuses-requires
 statuses-requires c κs = is-packed (c .before .before) .words
 
 unranked : tie.Need-returns-3
 unranked c =
-    unsound (c .before .before .statuses .ensures .2) (not-true _ (c .if3 .taken)) (λ (s : Sound base _). (s .store .once, s .store .gapless))
+    unsound (c .before .before .statuses .ensures .2) (not-true _ (c .if3 .taken))
+    (λ (s : Sound base _). (s .store .unsettled .once, s .store .unsettled .gapless))
 
 fits-requires : tie.Need-fits-requires
 fits-requires c κs = (is-packed (c .before .before .before .before .before), c .before .before .statuses .ensures .0)
@@ -66,14 +67,14 @@ fits-requires c κs = (is-packed (c .before .before .before .before .before), c 
 unfit : tie.Need-returns-4
 unfit c =
     unsound (c .before .fits2 .ensures) (not-true _ (c .if4 .taken))
-    (λ (s : Sound base _). (s .store .live, s .store .fits, s .store .reduced))
+    (λ (s : Sound base _). (s .store .unsettled .live, s .store .unsettled .fits, s .store .unsettled .reduced))
 
 answered-requires : tie.Need-answered-requires
 answered-requires c κs = (is-packed (c .before .before .before .before .before .before .before), fit c .1)
 
 unanswered : tie.Need-returns-5
 unanswered c =
-    unsound (c .before .answered .ensures) (not-true _ (c .if5 .taken)) (λ (s : Sound base _). (s .store .room, s .store .answered))
+    unsound (c .before .answered .ensures) (not-true _ (c .if5 .taken)) (λ (s : Sound base _). (s .store .unsettled .room, s .store .unsettled .answered))
 
 conflicts-requires : tie.Need-conflicts-requires
 conflicts-requires c κs =
@@ -82,10 +83,10 @@ conflicts-requires c κs =
 
 unrecoverable : tie.Need-returns-6
 unrecoverable c =
-    unsound (c .before .before .conflicts .ensures .0) (not-true _ (c .if6 .taken)) (λ (s : Sound base _). s .store .recoverable)
+    unsound (c .before .before .conflicts .ensures .0) (not-true _ (c .if6 .taken)) (λ (s : Sound base _). s .store .unsettled .recoverable)
 
 cyclic : tie.Need-returns-7
-cyclic c = unsound (acyclic (c .before)) (not-true _ (c .if7 .taken)) (λ (s : Sound base _). s .store .acyclic)
+cyclic c = unsound (acyclic (c .before)) (not-true _ (c .if7 .taken)) (λ (s : Sound base _). s .store .unsettled .acyclic)
 
 whole : tie.Need-returns-8
 whole c =
@@ -101,16 +102,18 @@ whole c =
           (λ d. record {
             packed = is-packed (formed .before);
             store = record {
-              rows = formed .formed .ensures .0 (not-false _ (summary .before .if2 .left));
-              live = f .0;
-              fits = f .1;
-              reduced = f .2;
-              recoverable = found .conflicts .ensures .0 .0 (not-false _ (past .if6 .left));
-              answered = answers .1;
-              room = answers .0;
-              once = ranks .0;
-              gapless = ranks .1;
-              acyclic = acyclic (c .before .before .before) .0 (not-false _ (c .before .before .if7 .left));
+              unsettled = record {
+                rows = formed .formed .ensures .0 (not-false _ (summary .before .if2 .left));
+                live = f .0;
+                fits = f .1;
+                reduced = f .2;
+                recoverable = found .conflicts .ensures .0 .0 (not-false _ (past .if6 .left));
+                answered = answers .1;
+                room = answers .0;
+                once = ranks .0;
+                gapless = ranks .1;
+                acyclic = acyclic (c .before .before .before) .0 (not-false _ (c .before .before .if7 .left));
+              };
               dependent = d;
             };
           })

@@ -2,6 +2,7 @@
 use mathlib.Core.Logic.{_↔_, _⊎_, inl, inr, ⊎-elim}
 use mathlib.Core.List.{List, [], _∷_, _++_}
 use Rattle.operations.specs.Operations.{All}
+use Rattle.operations.specs.Laws.Cases.{all-map}
 use Rattle.store.specs.Dependency.{Any}
 
 module _ {A : Type 0} where
@@ -10,9 +11,9 @@ module _ {A : Type 0} where
   any-some P (x ∷ l) (inl p) = (x, p)
   any-some P (x ∷ l) (inr p) = any-some P l p
 
-  pub none-any : (P : A → Type 0) (l : List A) → (Any P l → ⊥) → All (λ (x : A). P x → ⊥) l
-  none-any P [] n = tt
-  none-any P (x ∷ l) n = (λ p. n (inl p), none-any P l (λ p. n (inr p)))
+  pub each-any : (P : A → Type 0) (l : List A) → All (λ (x : A). P x → Any P l) l
+  each-any P [] = tt
+  each-any P (x ∷ l) = (inl, all-map (λ y f p. inr (f p)) l (each-any P l))
 
   pub any-map : (P Q : A → Type 0) → ((x : A) → P x → Q x) → (l : List A) → Any P l → Any Q l
   any-map P Q f [] p = p

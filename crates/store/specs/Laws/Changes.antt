@@ -1,16 +1,16 @@
 -- What the changes of `Steps` leave as it is: statuses and objects by number, entries by transaction and object, and the room that a book has.
 use Prim.Native.Nat.{ℕ, zero, suc, _<_, _≤_}
 use mathlib.Core.Path.{_≡_, refl, ap, _∙_}
-use mathlib.Core.Bool.{true, false}
+use mathlib.Core.Bool.{Bool, true, false}
 use mathlib.Core.List.{List, [], _∷_, _++_}
 use native.Mathlib.Omega.{arith}
 use lib.Dec.{eqb}
 use lib.ListN.{length, getD, set, length-set, length-append, length-map, List·getD-map, List·getD-eq-default}
 use lib.Seq.{getD-set-same, getD-set-other}
 use Rattle.operations.specs.Operations.{Operation, Reply, All}
-use Rattle.operations.specs.Log.{Entry, only, others}
+use Rattle.operations.specs.Log.{Entry, only}
 use Rattle.operations.specs.Laws.Cases.{split}
-use Rattle.store.specs.Store.{Status, absent, Object, noObject, Logged, Store, statusOf, objectOf, onObject}
+use Rattle.store.specs.Store.{Status, absent, Object, noObject, Logged, Store, statusOf, objectOf, onObject, operationsOf}
 use Rattle.store.specs.Layout.{ObjectFits, Representable, base}
 use Rattle.store.specs.Steps.{appended, without, dropped, carried, folded, withStatus, lowered, closedUp}
 use Rattle.store.specs.Laws.Words.{below}
@@ -61,14 +61,6 @@ module _ (s : Store) (object : ℕ) (o : Operation) where
 
 -- ---- Entries
 
-module _ (P : Logged → Type 0) (t : ℕ) where
-  pub all-without : (log : List Logged) → All P log → All P (without t log)
-  all-without [] a = tt
-  all-without (l ∷ log) a =
-      split (eqb (l .entry .transaction) t)
-      (λ (e : eqb (l .entry .transaction) t ≡ true). rw e (all-without log (a .1)))
-      (λ (e : eqb (l .entry .transaction) t ≡ false). rw e (a .0, all-without log (a .1)))
-
 without-length : (t : ℕ) (log : List Logged) → length (without t log) ≤ length log
 without-length t [] = omega arith
 without-length t (l ∷ log) =
@@ -76,19 +68,19 @@ without-length t (l ∷ log) =
     (λ (e : eqb (l .entry .transaction) t ≡ true). rw e (omega (arith, without-length t log)))
     (λ (e : eqb (l .entry .transaction) t ≡ false). rw e (omega (arith, without-length t log)))
 
--- An object's entries without a transaction's.
-pub on-without : (o t : ℕ) (log : List Logged) → onObject o (without t log) ≡ only (others (λ h. eqb h t)) (onObject o log)
-on-without o t [] = refl
-on-without o t (l ∷ log) =
-    split (eqb (l .entry .transaction) t)
-    (λ (e : eqb (l .entry .transaction) t ≡ true).
+-- Those of picked transactions, on one object.
+pub on-picked : (picked : ℕ → Bool) (o : ℕ) (log : List Logged) → onObject o (operationsOf picked log) ≡ only picked (onObject o log)
+on-picked picked o [] = refl
+on-picked picked o (l ∷ log) =
+    split (picked (l .entry .transaction))
+    (λ (e : picked (l .entry .transaction) ≡ true).
     split (eqb (l .object) o)
-    (λ (f : eqb (l .object) o ≡ true). simp (e, f) (on-without o t log))
-    (λ (f : eqb (l .object) o ≡ false). simp (e, f) (on-without o t log)))
-    (λ (e : eqb (l .entry .transaction) t ≡ false).
+    (λ (f : eqb (l .object) o ≡ true). simp (e, f) (ap (λ (m : List (Entry Operation Reply)). l .entry ∷ m) (on-picked picked o log)))
+    (λ (f : eqb (l .object) o ≡ false). simp (e, f) (on-picked picked o log)))
+    (λ (e : picked (l .entry .transaction) ≡ false).
     split (eqb (l .object) o)
-    (λ (f : eqb (l .object) o ≡ true). simp (e, f) (ap (λ (m : List (Entry Operation Reply)). l .entry ∷ m) (on-without o t log)))
-    (λ (f : eqb (l .object) o ≡ false). simp (e, f) (on-without o t log)))
+    (λ (f : eqb (l .object) o ≡ true). simp (e, f) (on-picked picked o log))
+    (λ (f : eqb (l .object) o ≡ false). simp (e, f) (on-picked picked o log)))
 
 pub on-append : (o : ℕ) (log more : List Logged) → onObject o (log ++ more) ≡ onObject o log ++ onObject o more
 on-append o [] more = refl

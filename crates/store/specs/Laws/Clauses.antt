@@ -2,7 +2,7 @@
 use Prim.Native.Nat.{ℕ, _≤_, _<_, _+_, _*_}
 use mathlib.Core.Path.{_≡_, refl, ap}
 use mathlib.Core.Bool.{true, Bool-discrete}
-use mathlib.Core.Logic.{Dec·and, Dec·not, Dec·of-iff}
+use mathlib.Core.Logic.{Dec·and, Dec·not}
 use mathlib.Core.Option.{Option, none, some, Option·none-ne-some, Option·some-injective}
 use mathlib.Core.List.{List, [], _∷_}
 use native.Mathlib.Decide.{ℕ-discrete, decLe, decLt}
@@ -14,19 +14,19 @@ use Rattle.operations.specs.Laws.Objects.{object}
 use Rattle.store.specs.Store.{Status, absent, pseudoCommitted, Logged, Store, statusOf, objectOf, Live, PseudoCommitted, onObject}
 use Rattle.store.specs.Dependency.{DependsOn, OnCycle}
 use Rattle.store.specs.Layout.{Format, word, statusWord, readStatus, kindWord, readKind, entryStart, operationAt, AsStored, LogPacked, objectStart, ObjectPacked, decode, base}
-use Rattle.store.specs.Soundness.{OfKind, EntriesFit, Room, OnceEach, WithoutGaps, Acyclic, Dependent, SoundStore, Sound}
+use Rattle.store.specs.Soundness.{OfKind, EntriesFit, Room, OnceEach, WithoutGaps, Acyclic, Dependent, Unsettled, SoundStore, Sound}
 use Rattle.store.specs.Laws.Encoding.{status-read}
 use Rattle.store.specs.Laws.Objects.{kind-read}
 use Rattle.store.specs.Laws.Statuses.{same-rank, live-within, pseudo-committed-within, kind-within}
 use Rattle.store.specs.Laws.Capacity.{past-room}
-use Rattle.store.specs.Laws.Deciding.{implies, and-then, all-three, all-four, by-number, all, made-of, all-below, every, some-below}
+use Rattle.store.specs.Laws.Deciding.{alike, implies, and-then, all-three, all-four, by-number, all, made-of, all-below, every, some-below}
 use Rattle.store.specs.Laws.Graph.{depends-on, pseudo-committed, cycle}
 
 -- ---- Rows, operations and replies
 
 same-reply : (r q : Reply) → Dec (r ≡ q)
 same-reply r q =
-    Dec·of-iff (λ h i. replied (h .0 i) (h .1 i), λ e. (ap (λ (x : Reply). x .code) e, ap (λ (x : Reply). x .value) e))
+    alike (λ h i. replied (h .0 i) (h .1 i), λ e. (ap (λ (x : Reply). x .code) e, ap (λ (x : Reply). x .value) e))
     (Dec·and (ℕ-discrete (r .code) (q .code)) (ℕ-discrete (r .value) (q .value)))
 
 ascending : (rs : List Row) → Dec (Ascending rs)
@@ -93,7 +93,7 @@ module _ (s : Store) where
 
   once : Dec (OnceEach s)
   once =
-      Dec·of-iff (λ h t u rank e f. h t rank e u f, λ h t rank e u f. h t u rank e f)
+      alike (λ h t u rank e f. h t rank e u f, λ h t rank e u f. h t u rank e f)
       (of-rank (λ t rank. (u : ℕ) → statusOf s u ≡ pseudoCommitted rank → t ≡ u)
       (λ t rank.
       every (length (s .statuses)) (λ u. statusOf s u ≡ pseudoCommitted rank → t ≡ u)
@@ -102,12 +102,12 @@ module _ (s : Store) where
 
   ranked : (rank : ℕ) → Dec ((u : ℕ) × (statusOf s u ≡ pseudoCommitted rank))
   ranked rank =
-      Dec·of-iff (λ h. (h .0, h .2), λ h. (h .0, pseudo-committed-within s (h .0) (rank, h .1), h .1))
+      alike (λ h. (h .0, h .2), λ h. (h .0, pseudo-committed-within s (h .0) (rank, h .1), h .1))
       (some-below (length (s .statuses)) (λ u. statusOf s u ≡ pseudoCommitted rank) (λ u. same-status (statusOf s u) (pseudoCommitted rank)))
 
   gapless : Dec (WithoutGaps s)
   gapless =
-      Dec·of-iff (λ h t rank lower e. h t rank e lower, λ h t rank e lower. h t rank lower e)
+      alike (λ h t rank lower e. h t rank e lower, λ h t rank e lower. h t rank lower e)
       (of-rank (λ t rank. (lower : ℕ) → lower < rank → (u : ℕ) × (statusOf s u ≡ pseudoCommitted lower))
       (λ t rank. all-below rank (λ lower. (u : ℕ) × (statusOf s u ≡ pseudoCommitted lower)) ranked))
 
@@ -121,7 +121,7 @@ module _ (s : Store) where
 
   on-live : (t : ℕ) → Dec ((u : ℕ) × Live s u × DependsOn (s .log) t u)
   on-live t =
-      Dec·of-iff (λ h. (h .0, h .2 .0, h .2 .1), λ h. (h .0, live-within s (h .0) (h .1), (h .1, h .2)))
+      alike (λ h. (h .0, h .2 .0, h .2 .1), λ h. (h .0, live-within s (h .0) (h .1), (h .1, h .2)))
       (some-below (length (s .statuses)) (λ u. Live s u × DependsOn (s .log) t u)
       (λ u. Dec·and (Dec·not (same-status (statusOf s u) absent)) (depends-on (s .log) t u)))
 
@@ -129,9 +129,9 @@ module _ (s : Store) where
   dependent = of-pseudo-committed (λ t. (u : ℕ) × Live s u × DependsOn (s .log) t u) on-live
 
   module _ (format : Format) (room : EntriesFit s → Dec (Room format s)) where
-    sound-store : Dec (SoundStore format s)
-    sound-store =
-        Dec·of-iff (
+    unsettled : Dec (Unsettled format s)
+    unsettled =
+        alike (
           λ h. record {
             rows = h .0 .0;
             live = h .0 .1;
@@ -143,9 +143,8 @@ module _ (s : Store) where
             once = h .1 .1 .0;
             gapless = h .1 .1 .1;
             acyclic = h .1 .1 .2;
-            dependent = h .1 .1 .3;
           },
-          λ p. ((p .rows, p .live, p .fits, p .reduced), ((p .recoverable, p .answered, p .room), (p .once, p .gapless, p .acyclic, p .dependent))),
+          λ p. ((p .rows, p .live, p .fits, p .reduced), ((p .recoverable, p .answered, p .room), (p .once, p .gapless, p .acyclic))),
         )
         (and-then
         (all-four (of-kind _ (λ o kind. well-formed (format .reduce) kind (objectOf s o .rows)))
@@ -157,14 +156,18 @@ module _ (s : Store) where
         (all-three (of-kind _ (λ o kind. all-recoverable (object (format .reduce) kind) (onObject o (s .log))))
         (of-kind _ (λ o kind. all-answered (object (format .reduce) kind) same-reply (onObject o (s .log)) (objectOf s o .rows)))
         (room (h .2)))
-        (all-four once gapless acyclic dependent)))
+        (all-three once gapless acyclic)))
+
+    sound-store : Dec (SoundStore format s)
+    sound-store =
+        alike (λ h. record { unsettled = h .0; dependent = h .1 }, λ p. (p .unsettled, p .dependent)) (Dec·and unsettled dependent)
 
 -- ---- A book's words
 
 module _ (w : List ℕ) where
   log-packed : Dec (LogPacked w)
   log-packed =
-      Dec·of-iff (λ h. record { entries = h .0; asStored = h .1; unused = h .2 }, λ p. (p .entries, p .asStored, p .unused))
+      alike (λ h. record { entries = h .0; asStored = h .1; unused = h .2 }, λ p. (p .entries, p .asStored, p .unused))
       (all-three (decLe (word w 0) 256)
       (all-below (word w 0) (AsStored w)
       (λ i.
@@ -177,7 +180,7 @@ module _ (w : List ℕ) where
   object-packed : (o : ℕ) → Dec (ObjectPacked w o)
   object-packed o =
       let start = objectStart o in
-      Dec·of-iff (
+      alike (
         λ h. record { kind = h .0; rows = h .1; none = h .2; unused = λ i l m. h .3 i m l },
         λ p. (p .kind, p .rows, p .none, λ i m l. p .unused i l m),
       )
@@ -189,7 +192,7 @@ module _ (w : List ℕ) where
   module _ (format : Format) (objects : Dec (format .ObjectsPacked w)) (room : EntriesFit (decode format w) → Dec (Room format (decode format w))) where
     sound : Dec (Sound format w)
     sound =
-        Dec·of-iff (
+        alike (
           λ h. record { packed = record { words = h .0; objects = h .1; log = h .2 }; store = h .3 },
           λ p. (p .packed .words, p .packed .objects, p .packed .log, p .store),
         )

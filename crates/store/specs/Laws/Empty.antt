@@ -35,16 +35,18 @@ module _ (s : Store) (empty : Empty s) where
   pub empty-sound : (format : Format) → Room format s → SoundStore format s
   empty-sound format room =
       record {
-        rows = λ o kind e. rw (empty .rows o) (no-rows (format .reduce) kind);
-        live = no-entry _;
-        fits = no-entry _;
-        reduced = no-entry _;
-        recoverable = λ o kind e. rw (empty .log) tt;
-        answered = λ o kind e. rw (empty .log) tt;
-        room = room;
-        once = λ t u rank e. absurd (no-rank t rank e);
-        gapless = λ t rank lower e. absurd (no-rank t rank e);
-        acyclic = λ t p. absurd (no-rank t (p .0) (p .1));
+        unsettled = record {
+          rows = λ o kind e. rw (empty .rows o) (no-rows (format .reduce) kind);
+          live = no-entry _;
+          fits = no-entry _;
+          reduced = no-entry _;
+          recoverable = λ o kind e. rw (empty .log) tt;
+          answered = λ o kind e. rw (empty .log) tt;
+          room = room;
+          once = λ t u rank e. absurd (no-rank t rank e);
+          gapless = λ t rank lower e. absurd (no-rank t rank e);
+          acyclic = λ t p. absurd (no-rank t (p .0) (p .1));
+        };
         dependent = λ t p. absurd (no-rank t (p .0) (p .1));
       }
 

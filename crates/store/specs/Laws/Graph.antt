@@ -1,52 +1,60 @@
--- Decisions about a store's dependencies.
-use Prim.Native.Nat.{ℕ}
+-- Decisions about a store's dependencies. They compute, so that the desk does.
+use Prim.Native.Nat.{ℕ, zero, suc}
 use mathlib.Core.Path.{_≡_, refl}
 use mathlib.Core.Bool.{false, Bool-discrete}
-use mathlib.Core.Logic.{_⊎_, inl, inr, ⊎-elim, Dec·and, Dec·not}
+use mathlib.Core.Logic.{Dec·and, Dec·not, Dec·not-not}
 use mathlib.Core.List.{List}
 use native.Mathlib.Decide.{ℕ-discrete}
-use lib.ListN.{length}
 use Rattle.operations.specs.PairRules.{commutes}
 use Rattle.store.specs.Store.{Status, absent, active, pseudoCommitted, Logged, Store, statusOf, PseudoCommitted}
-use Rattle.store.specs.Dependency.{Any, Conflict, DependsOn, Ready, OnCycle}
+use Rattle.store.specs.Dependency.{Any, Conflict, DependsOn, Ready, Way, OnCycle}
 use Rattle.store.specs.Laws.Dependencies.{depended-on}
-use Rattle.store.specs.Laws.Any.{any-some, none-any}
-use Rattle.store.specs.Laws.Statuses.{absent-unranked, active-unranked, pseudo-committed-within}
-use Rattle.store.specs.Laws.Deciding.{all-four, any, follows, way}
+use Rattle.store.specs.Laws.Any.{any-some, each-any}
+use Rattle.store.specs.Laws.Statuses.{absent-unranked, active-unranked}
+use Rattle.store.specs.Laws.Deciding.{alike, either, all-three, all-four, any, follows}
 
-conflict : (a b : ℕ) (e x : Logged) → Dec (Conflict a b e x)
+abbrev conflict : (a b : ℕ) (e x : Logged) → Dec (Conflict a b e x)
 conflict a b e x =
     all-four (ℕ-discrete (x .entry .transaction) a) (ℕ-discrete (e .entry .transaction) b) (ℕ-discrete (x .object) (e .object))
     (Bool-discrete (commutes (x .entry .operation) (e .entry .operation)) false)
 
-pub depends-on : (log : List Logged) (a b : ℕ) → Dec (DependsOn log a b)
-depends-on log a b = Dec·and (Dec·not (ℕ-discrete a b)) (follows (conflict a b) log)
+module _ (log : List Logged) where
+  abbrev pub depends-on : (a b : ℕ) → Dec (DependsOn log a b)
+  depends-on a b = Dec·and (Dec·not (ℕ-discrete a b)) (follows (conflict a b) log)
 
--- The entry's owner is one that t depends on.
-abbrev Behind : List Logged → ℕ → Logged → Type 0
-Behind log t l = DependsOn log t (l .entry .transaction)
+  -- Some transaction that a depends on is such: it owns an entry.
+  abbrev someone : (a : ℕ) {P : ℕ → Type 0} → ((c : ℕ) → P c → DependsOn log a c) → ((c : ℕ) → Dec (P c)) → Dec ((c : ℕ) × P c)
+  someone a {P} depends d =
+      let Owner : Logged → Type 0 = λ l. P (l .entry .transaction) in
+      alike (
+        λ p. let w = any-some Owner log p in (w .0 .entry .transaction, w .1),
+        λ w. depended-on (λ (c : ℕ). P c → Any Owner log) a (w .0) log (each-any Owner log) (depends (w .0) (w .1)) (w .1),
+      ) (any (λ (l : Logged). d (l .entry .transaction)) log)
 
--- It depends on the owner of some entry, or on nobody.
-depends-or-ready : (log : List Logged) (t : ℕ) → ((u : ℕ) × DependsOn log t u) ⊎ Ready log t
-depends-or-ready log t = answer (any (λ (l : Logged). depends-on log t (l .entry .transaction)) log)
-  where
-    answer : Dec (Any (Behind log t) log) → ((u : ℕ) × DependsOn log t u) ⊎ Ready log t
-    answer (yes p) = let w = any-some (Behind log t) log p in inl (w .0 .entry .transaction, w .1)
-    answer (no n) = inr (λ u d. depended-on (λ (b : ℕ). DependsOn log t b → ⊥) t u log (none-any (Behind log t) log n) d d)
+  abbrev depends : (t : ℕ) → Dec ((u : ℕ) × DependsOn log t u)
+  depends t = someone t (λ u d. d) (depends-on t)
 
-pub ready : (log : List Logged) (t : ℕ) → Dec (Ready log t)
-ready log t = ⊎-elim (λ d. no (λ r. r (d .0) (d .1))) yes (depends-or-ready log t)
+  abbrev pub ready : (t : ℕ) → Dec (Ready log t)
+  ready t = alike (λ n u d. n (u, d), λ r w. r (w .0) (w .1)) (Dec·not (depends t))
 
-pub depends-on-some : (log : List Logged) (t : ℕ) → (Ready log t → ⊥) → (u : ℕ) × DependsOn log t u
-depends-on-some log t n = ⊎-elim (λ d. d) (λ r. absurd (n r)) (depends-or-ready log t)
+  pub depends-on-some : (t : ℕ) → (Ready log t → ⊥) → (u : ℕ) × DependsOn log t u
+  depends-on-some t n = Dec·not-not (depends t) .0 (λ m. n (λ u d. m (u, d)))
 
-pub pseudo-committed : (s : Store) (t : ℕ) → Dec (PseudoCommitted s t)
-pseudo-committed s t = ranked (statusOf s t)
-  where
-    ranked : (status : Status) → Dec ((rank : ℕ) × (status ≡ pseudoCommitted rank))
-    ranked absent = no (λ p. absent-unranked (p .0) (p .1))
-    ranked active = no (λ p. active-unranked (p .0) (p .1))
-    ranked (pseudoCommitted rank) = yes (rank, refl)
+module _ (s : Store) where
+  abbrev pub pseudo-committed : (t : ℕ) → Dec (PseudoCommitted s t)
+  pseudo-committed t = ranked (statusOf s t)
+    where
+      ranked : (status : Status) → Dec ((rank : ℕ) × (status ≡ pseudoCommitted rank))
+      ranked absent = no (λ p. absent-unranked (p .0) (p .1))
+      ranked active = no (λ p. active-unranked (p .0) (p .1))
+      ranked (pseudoCommitted rank) = yes (rank, refl)
 
-pub cycle : (s : Store) (t : ℕ) → Dec (OnCycle s t)
-cycle s t = way (depends-on (s .log)) (pseudo-committed s) (length (s .statuses)) (pseudo-committed-within s) 64 t t
+  abbrev way : (n a b : ℕ) → Dec (Way (DependsOn (s .log)) (PseudoCommitted s) n a b)
+  way zero a b = no (λ w. w)
+  way (suc n) a b =
+      either (depends-on (s .log) a b)
+      (alike (λ w. (w .0, w .1 .0, w .1 .1, w .1 .2), λ w. (w .0, (w .1, w .2, w .3)))
+      (someone (s .log) a (λ c w. w .1) (λ c. all-three (pseudo-committed c) (depends-on (s .log) a c) (way n c b))))
+
+  abbrev pub cycle : (t : ℕ) → Dec (OnCycle s t)
+  cycle t = way 64 t t

@@ -1,0 +1,5 @@
+pub mod Serving
+pub mod Linking
+pub mod Steps
+pub mod Consequences
+pub mod Computing

@@ -1,0 +1,5 @@
+pub mod History
+pub mod Cases
+pub mod Laws
+pub mod Theorems
+pub mod Traces
