@@ -2,9 +2,9 @@
 -- ordered behind another, finished, cancelled for a circle or committed exactly where document 000's recoverability and commit protocol (sections 4.2.1 and
 -- 4.3), as 01 fixes them, says so; and what every call keeps.
 use Prim.Native.Nat.{ℕ, _+_, _*_, _<_, _≤_}
-use mathlib.Core.Path.{_≡_, ap}
+use mathlib.Core.Path.{_≡_, sym, ap, _∙_, subst}
 use mathlib.Core.Bool.{true, false}
-use mathlib.Core.Logic.{_↔_, _⊎_, Iff·trans}
+use mathlib.Core.Logic.{_↔_, _⊎_, Iff·rfl, Iff·trans, Iff·and}
 use mathlib.Core.Option.{some}
 use mathlib.Core.List.{List, [], _∷_, _++_, map}
 use lib.ListN.{length, replicate, take, drop}
@@ -19,17 +19,20 @@ use Rattle.store.specs.Steps.{without, withStatus}
 use Rattle.store.specs.Soundness.{Unsettled, Sound}
 use Rattle.store.specs.Decisions.{whetherSound}
 use Rattle.store.specs.Theorems.{representable, none-left}
+use Rattle.store.specs.Laws.Changes.{representable-status}
 use Rattle.protocol.specs.Replies.{Served, ok, answered, wait, finished, committed, circle, cancelled, counted, refused}
 use Rattle.protocol.specs.Ending.{ended, commit, Settlement, settledAll}
-use Rattle.protocol.specs.Calls.{setUpReason, setUp, beginReason, begin, request, operateReason, operate, endReason, finish, cancel, contentsReason, contents}
+use Rattle.protocol.specs.Calls.{setUpReason, setUp, beginReason, begin, blocker, request, operateReason, operate, endReason, finish, cancel, contentsReason, contents}
 use Rattle.protocol.specs.Call.{Call, desk, reasonOf, listOf}
 use Rattle.protocol.specs.Terms.{SetUpAccepted, BeginAccepted, OperateAccepted, EndAccepted, ContentsAccepted, LowestReady, Places, Earliest, inOrder, withoutAll, Distinct}
 use Rattle.protocol.specs.Laws.Reasons.{set-up-accepted, set-up-accepts, begin-accepted, begin-accepts, operate-accepted, operate-accepts, end-accepted, end-accepts, contents-accepted, contents-accepts}
+use Rattle.protocol.specs.Laws.Blocking.{blocked-none, blocked-some}
 use Rattle.protocol.specs.Laws.Settling.{lowest-found, none-ready, settled-end, settled-step}
 use Rattle.protocol.specs.Laws.Protocol as protocol
 use Rattle.protocol.specs.Laws.Commits as commits
 use Rattle.protocol.specs.Laws.Concluding as concluding
 use Rattle.protocol.specs.Laws.Concluding.{Concluded}
+use Rattle.protocol.specs.Laws.Keeping.{emptied-sound}
 use Rattle.protocol.specs.Laws.Kept as kept
 use Rattle.protocol.specs.Laws.Leaving as leaving
 
@@ -37,12 +40,12 @@ use Rattle.protocol.specs.Laws.Leaving as leaving
 
 -- A call is refused exactly where a reason applies, with the first one's number,
 pub refused-exactly : (call : Call) (w : List ℕ) (n : ℕ) → (desk call w .outcome .reply ≡ refused n) ↔ ((reasonOf call w ≡ n) × (n ≡ 0 → ⊥))
-refused-exactly = leaving.refused-exactly
+refused-exactly call w = leaving.refused-by (reasonOf call w) w (listOf call) (desk call w) (leaving.guard call w)
 
 -- and leaves book and list as they are, with an empty part handed back.
 pub refused-untouched : (call : Call) (w : List ℕ) (n : ℕ) → desk call w .outcome .reply ≡ refused n
     → (desk call w .book ≡ w) × (desk call w .outcome .list ≡ listOf call) × (desk call w .outcome .rows ≡ [])
-refused-untouched = leaving.refused-untouched
+refused-untouched call w = leaving.untouched-by (reasonOf call w) w (listOf call) (desk call w) (leaving.guard call w)
 
 -- No reason applies exactly where a call may be served: the records say so clause by clause.
 pub set-up-may : (w kinds : List ℕ) → (setUpReason base w kinds ≡ 0) ↔ SetUpAccepted w kinds
@@ -67,12 +70,16 @@ pub set-up-leaves : (w kinds : List ℕ) → setUpReason base w kinds ≡ 0
     → (setUp base w kinds .outcome .reply ≡ ok)
     × (decode base (setUp base w kinds .book)
     ≡ record { statuses = replicate 64 absent; objects = map (λ k. record { kind = readKind k; rows = [] }) kinds; log = [] })
-set-up-leaves = leaving.set-up-leaves
+set-up-leaves w kinds accepted =
+    leaving.read-back (setUp base w kinds) _ (emptied-sound kinds (set-up-accepted base w kinds accepted .sixteen) .1) (leaving.set-up-served w kinds accepted)
 
 -- begin leaves the transaction active, and all else as it was;
 pub begin-leaves : (w : List ℕ) (t : ℕ) → beginReason base whetherSound w t ≡ 0
     → (begin base whetherSound w t .outcome .reply ≡ ok) × (decode base (begin base whetherSound w t .book) ≡ withStatus t active (decode base w))
-begin-leaves = leaving.begin-leaves
+begin-leaves w t accepted =
+    let s = decode base w in
+    let fits = representable w (begin-accepted base whetherSound w t accepted .sound .packed) in
+    leaving.read-back (begin base whetherSound w t) (withStatus t active s) (representable-status s fits t active) (leaving.begin-served w t accepted)
 
 -- contents counts the object's rows, and hands them back, two words each, as that part of the book itself.
 pub contents-leaves : (w : List ℕ) (o : ℕ) → contentsReason base whetherSound w o ≡ 0
@@ -80,7 +87,14 @@ pub contents-leaves : (w : List ℕ) (o : ℕ) → contentsReason base whetherSo
     let rows = objectOf (decode base w) o .rows in
     (r .outcome .reply ≡ counted (length rows)) × (r .book ≡ w) × (r .outcome .rows ≡ joined rowWords rows)
     × (r .outcome .rows ≡ take (2 * length rows) (drop (objectStart o + 2) w))
-contents-leaves = leaving.contents-leaves
+contents-leaves w o accepted =
+    let so = leaving.contents-served w o accepted in
+    let handed = ap (λ (r : Served). r .outcome .rows) so in (
+      ap (λ (r : Served). r .outcome .reply) so,
+      ap (λ (r : Served). r .book) so,
+      handed,
+      handed ∙ leaving.contents-part w o accepted,
+    )
 
 -- ---- Operate
 
@@ -97,16 +111,21 @@ module _ (w : List ℕ) (t o number k v : ℕ) (accepted : operateReason base wh
   -- It is answered exactly where it is recoverable against every entry of another transaction on the object,
   pub operate-answered-exactly : ((a : Reply) × (operated .outcome .reply ≡ answered a))
       ↔ All (λ (e : Entry Operation Reply). (e .transaction ≡ t → ⊥) → recoverable requested (e .operation) ≡ true) (onObject o (s .log))
-  operate-answered-exactly = protocol.answered-exactly w t o number k v accepted
+  operate-answered-exactly =
+      rw (protocol.responded w t o number k v accepted)
+      (Iff·trans (protocol.answered-none w t o requested (blocker t requested (onObject o (s .log)))) (blocked-none t requested (onObject o (s .log))))
 
   -- waits for the owner of the earliest that it is not recoverable against,
   pub operate-waits-exactly : (owner : ℕ) → (operated .outcome .reply ≡ wait owner) ↔ Earliest t requested owner (onObject o (s .log))
-  operate-waits-exactly = protocol.waits-exactly w t o number k v accepted
+  operate-waits-exactly owner =
+      rw (protocol.responded w t o number k v accepted)
+      (Iff·trans (protocol.waits-some w t o requested owner (blocker t requested (onObject o (s .log)))) (blocked-some t requested owner (onObject o (s .log))))
 
   -- and does one of the two; waiting, it changes no word.
   pub operate-either : ((a : Reply) × (operated .outcome .reply ≡ answered a))
       ⊎ ((owner : ℕ) × (operated .outcome .reply ≡ wait owner) × (operated .book ≡ w))
-  operate-either = protocol.answered-or-waits w t o number k v accepted
+  operate-either =
+      rw (protocol.responded w t o number k v accepted) (protocol.either-reply w t o requested (blocker t requested (onObject o (s .log))))
 
   -- The answer is the reply after the object's rows and its entries in order, and the request stands last in the log with it.
   pub operate-replayed : (a : Reply) → operated .outcome .reply ≡ answered a
@@ -128,7 +147,7 @@ module _ (w : List ℕ) (t o number k v : ℕ) (accepted : operateReason base wh
 
 -- A transaction depends on another exactly where two places of the log say so; d stands for entries past its end.
 pub depends-exactly : (d : Logged) (log : List Logged) (a b : ℕ) → DependsOn log a b ↔ ((a ≡ b → ⊥) × Places d log a b)
-depends-exactly = protocol.depends-places
+depends-exactly d log a b = Iff·and Iff·rfl (protocol.conflict-places d log a b)
 
 -- ---- Finish
 
@@ -141,7 +160,8 @@ module _ (w : List ℕ) (t : ℕ) (list : List ℕ) (accepted : endReason base w
 
   -- It is cancelled for a circle exactly where it lies on one, of any length, whose other members are all pseudo-committed;
   pub finish-circle : ((n : ℕ) × (ending .outcome .reply ≡ circle n)) ↔ Path (DependsOn (before .log)) (PseudoCommitted before) t t
-  finish-circle = protocol.finishes-circle w t list accepted
+  finish-circle =
+      rw (protocol.finishing w t list accepted) (Iff·trans (protocol.circle-exactly before t list) (protocol.any-circle w t list accepted))
 
   -- that is where some pseudo-committed one is both among those that it depends on, by ways through such, and among those that depend on it;
   pub finish-circle-shared : ((n : ℕ) × (ending .outcome .reply ≡ circle n))
@@ -150,23 +170,25 @@ module _ (w : List ℕ) (t : ℕ) (list : List ℕ) (accepted : endReason base w
 
   -- it commits exactly where it depends on nobody;
   pub finish-committed : ((n : ℕ) × (ending .outcome .reply ≡ committed n)) ↔ Ready (before .log) t
-  finish-committed = protocol.finishes-committed w t list accepted
+  finish-committed = rw (protocol.finishing w t list accepted) (protocol.committed-exactly before t list)
 
   -- it is pseudo-committed exactly where neither is so;
   pub finish-finished : (ending .outcome .reply ≡ finished) ↔ ((OnCycle before t → ⊥) × ((u : ℕ) × DependsOn (before .log) t u))
-  finish-finished = protocol.finishes-finished w t list accepted
+  finish-finished = rw (protocol.finishing w t list accepted) (protocol.finished-exactly before t list)
 
   -- and there is no fourth reply. Cancel has one.
   pub finish-either : ((n : ℕ) × (ending .outcome .reply ≡ circle n)) ⊎ ((n : ℕ) × (ending .outcome .reply ≡ committed n)) ⊎ (ending .outcome .reply ≡ finished)
-  finish-either = protocol.finishes-so w t list accepted
+  finish-either = rw (protocol.finishing w t list accepted) (protocol.one-of-three before t list)
 
   pub cancel-cancelled : (n : ℕ) × (cancel base whetherSound w t list .outcome .reply ≡ cancelled n)
-  cancel-cancelled = protocol.cancels-so w t list accepted
+  cancel-cancelled = (_, ap (λ (r : Served). r .outcome .reply) (protocol.cancelling w t list accepted))
 
   -- Pseudo-committed, it is last in the order of finishing, and nobody commits.
   pub finish-ranked : ending .outcome .reply ≡ finished
       → (decode base (ending .book) ≡ withStatus t (pseudoCommitted (pseudoCommittedCount before)) before) × (ending .outcome .list ≡ list)
-  finish-ranked = protocol.pseudo-commits w t list accepted
+  finish-ranked =
+      rw (protocol.finishing w t list accepted)
+      (protocol.ranked-last before t list (representable w (end-accepted base whetherSound w t list accepted .sound .packed)))
 
 -- ---- Who commits then
 
@@ -265,7 +287,8 @@ module _ (w : List ℕ) (t : ℕ) (list : List ℕ) (accepted : endReason base w
 
 -- An accepted set up writes a sound book over any words,
 pub set-up-sound : (w kinds : List ℕ) → setUpReason base w kinds ≡ 0 → Sound base (setUp base w kinds .book)
-set-up-sound = kept.set-up-sound
+set-up-sound w kinds accepted =
+    subst (λ (r : Served). Sound base (r .book)) (sym (leaving.set-up-served w kinds accepted)) (kept.empty-encoded w kinds accepted)
 
 -- every call leaves a sound book sound,
 pub sound-kept : (call : Call) (w : List ℕ) → Sound base w → Sound base (desk call w .book)

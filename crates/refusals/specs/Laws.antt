@@ -20,6 +20,7 @@ use Rattle.store.specs.Decisions.{whetherSound}
 use Rattle.store.specs.Laws.Deciding.{decided}
 use Rattle.store.specs.Laws.Lists.{length-tabulate}
 use Rattle.store.specs.Laws.Reading.{status-by-word, object-read, object-past}
+use Rattle.store.specs.Laws.Objects.{kind-named}
 use Rattle.store.specs.Laws.Words.{below, each}
 use Rattle.answers.specs.Answers.{rowsNeeded}
 use Rattle.answers.specs.Laws.Entries.{needed-none}
@@ -85,13 +86,6 @@ other-word zero n = refl
 other-word (suc zero) n = absurd (n refl)
 other-word (suc (suc rank)) n = refl
 
-kind-word : (x : ℕ) → x ≤ 3 → (x ≡ 0 → ⊥) → isNone (readKind x) ≡ false
-kind-word zero l n = absurd (n refl)
-kind-word (suc zero) l n = refl
-kind-word (suc (suc zero)) l n = refl
-kind-word (suc (suc (suc zero))) l n = refl
-kind-word (suc (suc (suc (suc x)))) l n = absurd (omega arith)
-
 -- ---- Each test
 
 module _ (w : List ℕ) where
@@ -133,7 +127,7 @@ module _ (w : List ℕ) where
     without-kind e = ap isNone (kind-read ∙ ap readKind e)
 
     pub has-kind : Packed base w → (kind ≡ 0 → ⊥) → withoutKind (decode base w) o ≡ false
-    has-kind p n = ap isNone kind-read ∙ kind-word kind (rw (found, here) (p .objects o (omega arith) .kind)) n
+    has-kind p n = ap isNone kind-read ∙ ap isNone (kind-named kind (rw (found, here) (p .objects o (omega arith) .kind)) n .1)
 
     pub not-of-kind : (number : ℕ) {of : Bool} → of ≡ isOf (readKind kind) number → notOfKind (decode base w) o number ≡ not of
     not-of-kind number e = ap (λ (x : Option Kind). not (isOf x number)) kind-read ∙ ap not (sym e)

@@ -11,13 +11,14 @@ use Rattle.operations.specs.Operations.{reduceKey, byOrder}
 use Rattle.store.specs.Layout.{tabulate, encode, base}
 use Rattle.store.specs.Soundness.{Sound}
 use Rattle.store.specs.Decisions.{whetherReady, whetherOnCycle, whetherSound}
-use Rattle.protocol.specs.Replies.{ok, outcome, Served, served}
+use Rattle.protocol.specs.Replies.{ok, Served}
 use Rattle.protocol.specs.Ending.{firstBelow, lowestReady}
 use Rattle.protocol.specs.Calls as calls
 use Rattle.protocol.specs.Calls.{badKinds, unsound, empty, setUpReason}
 use Rattle.protocol.specs.Call.{Call, setUp, begin, operate, finish, cancel, contents, desk}
 use Rattle.protocol.specs.Theorems.{set-up-sound, sound-kept}
-use Rattle.protocol.specs.Laws.Reasons.{unless-accepted, found-sound}
+use Rattle.protocol.specs.Laws.Reasons.{found-sound}
+use Rattle.protocol.specs.Laws.Leaving.{set-up-served}
 use Rattle.history.specs.History.{Event, trace}
 
 -- What a call leaves where reason 4 does not apply. `rw` finds it; r, the call itself, keeps `rw` to one side.
@@ -48,10 +49,9 @@ trace-unchecked (call ∷ calls) w h =
 -- The events after an accepted set up.
 pub trace-computed : (kinds : List ℕ) → badKinds kinds ≡ false → (calls : List Call) (w : List ℕ) → length w ≡ 3_937
     → (desk (setUp kinds) w .outcome .reply ≡ ok) × (trace desk calls (desk (setUp kinds) w .book) ≡ trace unchecked calls (encode base (empty kinds)))
-unfolding calls.setUp
 trace-computed kinds good calls w l =
     let e : setUpReason base w kinds ≡ 0 = rw (eq-eqb (length w) 3_937 l, good) refl in
-    let so = unless-accepted (setUpReason base w kinds) w [] (served (encode base (empty kinds)) (outcome ok [] [])) e in (
+    let so = set-up-served w kinds e in (
       ap (λ (r : Served). r .outcome .reply) so,
       trace-unchecked calls (desk (setUp kinds) w .book) (set-up-sound w kinds e) ∙ ap (λ (r : Served). trace unchecked calls (r .book)) so,
     )

@@ -6,26 +6,27 @@ use mathlib.Core.Logic.{inr, ⊎-elim}
 use mathlib.Core.Option.{Option, some}
 use mathlib.Core.List.{List, [], _∷_, _++_}
 use native.Mathlib.Omega.{arith}
-use lib.ListN.{length, take}
+use lib.ListN.{take}
 use Rattle.operations.specs.Operations.{Kind, All, reduceKey}
 use Rattle.operations.specs.Log.{Answered, one}
 use Rattle.operations.specs.Theorems.{dropping}
 use Rattle.operations.specs.Laws.Cases.{all-map, all-append, all-filter}
 use Rattle.operations.specs.Laws.Objects.{object}
 use Rattle.store.specs.Store.{Logged, Store, objectOf, onObject, operationsOf}
-use Rattle.store.specs.Layout.{decode, word, readKind, joined, rowWords, base}
+use Rattle.store.specs.Layout.{decode, word, readKind, base}
 use Rattle.store.specs.Soundness.{Sound}
 use Rattle.store.specs.Decisions.{whetherSound}
 use Rattle.store.specs.Laws.Changes.{on-picked, on-append}
 use Rattle.store.specs.Laws.Statuses.{active-apart}
-use Rattle.protocol.specs.Replies.{cancelled, counted, refused, outcome, Served, served}
+use Rattle.protocol.specs.Replies.{cancelled, refused, outcome, Served}
 use Rattle.protocol.specs.Calls as calls
 use Rattle.protocol.specs.Call.{cancel, contents, desk, reasonOf}
 use Rattle.protocol.specs.Terms.{Among, inOrder}
 use Rattle.protocol.specs.Theorems.{refused-exactly, refused-untouched, commits-exactly, commits-carry, kinds-stay, sound-kept}
 use Rattle.protocol.specs.Laws.Ending.{entries-fit}
+use Rattle.protocol.specs.Laws.Leaving.{contents-served}
 use Rattle.protocol.specs.Laws.Protocol.{clash}
-use Rattle.protocol.specs.Laws.Reasons.{unless-accepted, of-length, found-sound, end-accepted, contents-accepts}
+use Rattle.protocol.specs.Laws.Reasons.{of-length, found-sound, end-accepted, contents-accepts}
 use Rattle.history.specs.History.{History, serial, Contents, emptyObjects, reached, committedContents, answers, given, written, Unaltered, ofEach}
 use Rattle.history.specs.Laws.Serving.{reached-rows, answers-both, answers-given}
 use Rattle.history.specs.Laws.Linking.{HasKind, FitsKind, answered-fits}
@@ -36,12 +37,9 @@ use Rattle.history.specs.Laws.Steps.{Follows, no-reason}
 -- Contents hands back the rows of an object that has a kind.
 contents-written : (w : List ℕ) (o : ℕ) (kind : Kind) → Sound base w → objectOf (decode base w) o .kind ≡ some kind
     → desk (contents o) w .outcome ≡ written (objectOf (decode base w) o .rows)
-unfolding calls.contents
 contents-written w o kind sound e =
-    let rows = objectOf (decode base w) o .rows in
     ap (λ (r : Served). r .outcome)
-    (unless-accepted (reasonOf (contents o) w) w [] (served w (outcome (counted (length rows)) [] (joined rowWords rows)))
-    (contents-accepts base whetherSound w o (record { words = sound .packed .words; sound = sound; kind = (kind, e) })))
+    (contents-served w o (contents-accepts base whetherSound w o (record { words = sound .packed .words; sound = sound; kind = (kind, e) })))
 
 -- ---- The operations of each of several transactions
 

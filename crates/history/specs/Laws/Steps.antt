@@ -3,21 +3,21 @@ use Prim.Native.Nat.{ℕ, zero, suc, _≤_, _<_}
 use mathlib.Core.Path.{_≡_, refl, sym, ap, _∙_, subst}
 use mathlib.Core.Bool.{Bool, true, false, cond}
 use mathlib.Core.Logic.{_↔_, _⊎_, inl, inr, ⊎-elim}
-use mathlib.Core.Option.{some}
 use mathlib.Core.List.{List, [], _∷_, _++_}
 use native.Mathlib.Omega.{arith}
 use borrow.Author.Tests.{eqb-false}
 use lib.Dec.{eqb}
 use lib.ListN.{length, take, List·getD-map}
 use lib.Seq.{take-append-seam}
-use Rattle.operations.specs.Operations.{Kind, Stack, Set, Table, All, reduceKey}
+use Rattle.operations.specs.Operations.{Kind, All, reduceKey}
 use Rattle.operations.specs.Laws.Cases.{split, same}
 use Rattle.store.specs.Store.{Status, absent, active, pseudoCommitted, Object, Logged, Store, statusOf, Live, Active, pseudoCommittedCount}
-use Rattle.store.specs.Layout.{decode, encode, word, readKind, Representable, base}
+use Rattle.store.specs.Layout.{decode, encode, word, Representable, base}
 use Rattle.store.specs.Soundness.{Unsettled, Sound}
 use Rattle.store.specs.Decisions.{whetherSound}
 use Rattle.store.specs.Steps.{appended, withStatus}
 use Rattle.store.specs.Theorems.{representable, decoded}
+use Rattle.store.specs.Laws.Objects.{kind-named}
 use Rattle.store.specs.Laws.Any.{any-append}
 use Rattle.store.specs.Laws.Changes.{status-own, status-other, representable-status}
 use Rattle.store.specs.Laws.Statuses.{absent-inactive, absent-unranked, active-live, live-within}
@@ -98,16 +98,9 @@ set-up-follows w kinds accepted =
     let e = set-up-accepts w kinds accepted in
     record { sound = set-up-sound w kinds e; linked = subst (Linked kinds newHistory) (sym (set-up-leaves w kinds e .1)) (empty-linked kinds) }
 
-read-kind : (n : ℕ) → n ≤ 3 → (n ≡ 0 → ⊥) → (kind : Kind) × (readKind n ≡ some kind)
-read-kind zero known positive = absurd (positive refl)
-read-kind (suc zero) known positive = (Stack, refl)
-read-kind (suc (suc zero)) known positive = (Set, refl)
-read-kind (suc (suc (suc zero))) known positive = (Table, refl)
-read-kind (suc (suc (suc (suc n)))) known positive = absurd (omega arith)
-
 known-kind : (kinds : List ℕ) → All (λ k. k ≤ 3) kinds → (o : ℕ) → (word kinds o ≡ 0 → ⊥) → (kind : Kind) × HasKind kinds o kind
 known-kind [] known o positive = absurd (positive refl)
-known-kind (k ∷ kinds) known zero positive = read-kind k (known .0) positive
+known-kind (k ∷ kinds) known zero positive = kind-named k (known .0) positive
 known-kind (k ∷ kinds) known (suc o) positive = known-kind kinds (known .1) o positive
 
 -- An object whose kind isn't 0 has one.

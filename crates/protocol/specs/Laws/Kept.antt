@@ -31,13 +31,9 @@ unless-kept : (P : List ℕ → Type 0) (n : ℕ) (w list : List ℕ) (s : Serve
 unless-kept P zero w list s p accepted = accepted refl
 unless-kept P (suc n) w list s p accepted = p
 
-empty-encoded : (w kinds : List ℕ) → setUpReason base w kinds ≡ 0 → Sound base (encode base (empty kinds))
+-- What set up writes, whatever was there before.
+pub empty-encoded : (w kinds : List ℕ) → setUpReason base w kinds ≡ 0 → Sound base (encode base (empty kinds))
 empty-encoded w kinds e = let sound = emptied-sound kinds (set-up-accepted base w kinds e .sixteen) in encoded-sound (empty kinds) (sound .1) (sound .0)
-
--- Whatever was there before.
-pub set-up-sound : (w kinds : List ℕ) → setUpReason base w kinds ≡ 0 → Sound base (setUp base w kinds .book)
-unfolding setUp
-set-up-sound w kinds e = rw e (empty-encoded w kinds e)
 
 module _ (w : List ℕ) (h : Sound base w) where
   abbrev s : Store

@@ -1,4 +1,4 @@
--- What each call leaves, refused or not: its reply, and the store read from the book after it.
+-- What a refused call leaves, and what set up, begin and contents leave where no reason applies.
 use Prim.Native.Nat.{ℕ, zero, suc, _+_, _-_, _*_}
 use mathlib.Core.Path.{_≡_, refl, sym, ap, _∙_, subst}
 use mathlib.Core.Logic.{_↔_}
@@ -6,21 +6,19 @@ use mathlib.Core.Option.{Option, none, some}
 use mathlib.Core.List.{List, []}
 use native.Mathlib.Omega.{arith}
 use lib.ListN.{length, take, drop}
-use Rattle.operations.specs.Operations.{Operation}
+use Rattle.operations.specs.Operations.{Row, Operation}
 use Rattle.store.specs.Store.{active, Store, objectOf, onObject}
-use Rattle.store.specs.Layout.{encode, decode, objectStart, joined, rowWords, base}
+use Rattle.store.specs.Layout.{encode, decode, objectStart, joined, rowWords, Representable, base}
 use Rattle.store.specs.Decisions.{whetherSound}
 use Rattle.store.specs.Steps.{withStatus}
-use Rattle.store.specs.Theorems.{representable, decoded}
+use Rattle.store.specs.Theorems.{decoded}
 use Rattle.store.specs.Laws.Reading.{kind-below}
 use Rattle.store.specs.Laws.Rows.{rows-counted, rows-part}
-use Rattle.store.specs.Laws.Changes.{representable-status}
 use Rattle.protocol.specs.Replies.{Response, ok, counted, refused, outcome, Served, served}
 use Rattle.protocol.specs.Calls.{unless, empty, request, blocker, respond, finishActive, setUpReason, setUp, beginReason, begin, operate, finish, cancel, contentsReason, contents}
 use Rattle.protocol.specs.Call as calling
 use Rattle.protocol.specs.Call.{Call, desk, reasonOf, listOf}
-use Rattle.protocol.specs.Laws.Reasons.{unless-refused, unless-accepted, set-up-accepted, begin-accepted, contents-accepted}
-use Rattle.protocol.specs.Laws.Keeping.{emptied-sound}
+use Rattle.protocol.specs.Laws.Reasons.{unless-refused, unless-accepted, contents-accepted}
 use Rattle.protocol.specs.Laws.Protocol.{clash, finish-by}
 
 -- ---- Refused
@@ -30,7 +28,7 @@ abbrev Serves : Response → Type 0
 Serves r = (n : ℕ) → r ≡ refused n → ⊥
 
 -- A call is served unless its reason applies.
-record Guarded (reason : ℕ) (w list : List ℕ) (r : Served) : Type 0 where
+pub record Guarded (reason : ℕ) (w list : List ℕ) (r : Served) : Type 0 where
   otherwise : Served
   guarded : r ≡ unless reason w list otherwise
   serves : Serves (otherwise .outcome .reply)
@@ -43,7 +41,7 @@ finishes : (s : Store) (t : ℕ) (list : List ℕ) → Serves (finishActive base
 finishes s t list =
     finish-by s t list (λ (r : Served). Serves (r .outcome .reply)) (λ c n e. clash cc) (λ c n e. clash cc) (λ c n e. clash cc)
 
-guard : (call : Call) (w : List ℕ) → Guarded (reasonOf call w) w (listOf call) (desk call w)
+pub guard : (call : Call) (w : List ℕ) → Guarded (reasonOf call w) w (listOf call) (desk call w)
 unfolding setUp begin operate finish cancel contents
 guard (calling.setUp kinds) w = record { otherwise = _; guarded = refl; serves = λ n e. clash cc }
 guard (calling.begin t) w = record { otherwise = _; guarded = refl; serves = λ n e. clash cc }
@@ -62,56 +60,50 @@ module _ (n : ℕ) (w list : List ℕ) (s : Served) (serves : Serves (s .outcome
       by zero = (λ e. absurd (serves m e), λ h. absurd (h .1 (sym (h .0))))
       by (suc k) = (λ e. let f : suc k ≡ m = cc in (f, λ z. omega (arith, f, z)), λ h. ap refused (h .0))
 
--- It is refused with the number of the reason that applies,
-pub refused-exactly : (call : Call) (w : List ℕ) (n : ℕ) → (desk call w .outcome .reply ≡ refused n) ↔ ((reasonOf call w ≡ n) × (n ≡ 0 → ⊥))
-refused-exactly call w n =
-    let g = guard call w in
-    subst (λ (r : Served). (r .outcome .reply ≡ refused n) ↔ ((reasonOf call w ≡ n) × (n ≡ 0 → ⊥))) (sym (g .guarded))
-    (refuses (reasonOf call w) w (listOf call) (g .otherwise) (g .serves) n)
+module _ (reason : ℕ) (w list : List ℕ) (r : Served) (g : Guarded reason w list r) (n : ℕ) where
+  -- It is refused with the number of the reason that applies,
+  pub refused-by : (r .outcome .reply ≡ refused n) ↔ ((reason ≡ n) × (n ≡ 0 → ⊥))
+  refused-by =
+      subst (λ (x : Served). (x .outcome .reply ≡ refused n) ↔ ((reason ≡ n) × (n ≡ 0 → ⊥))) (sym (g .guarded))
+      (refuses reason w list (g .otherwise) (g .serves) n)
 
--- and book and list stay.
-pub refused-untouched : (call : Call) (w : List ℕ) (n : ℕ) → desk call w .outcome .reply ≡ refused n
-    → (desk call w .book ≡ w) × (desk call w .outcome .list ≡ listOf call) × (desk call w .outcome .rows ≡ [])
-refused-untouched call w n e =
-    let g = guard call w in
-    let h = refused-exactly call w n .0 e in
-    let so = g .guarded ∙ unless-refused (reasonOf call w) w (listOf call) (g .otherwise) (λ z. h .1 (sym (h .0) ∙ z)) in
-    (ap (λ (r : Served). r .book) so, ap (λ (r : Served). r .outcome .list) so, ap (λ (r : Served). r .outcome .rows) so)
+  -- and book and list stay.
+  pub untouched-by : r .outcome .reply ≡ refused n → (r .book ≡ w) × (r .outcome .list ≡ list) × (r .outcome .rows ≡ [])
+  untouched-by e =
+      let h = refused-by .0 e in
+      let so = g .guarded ∙ unless-refused reason w list (g .otherwise) (λ z. h .1 (sym (h .0) ∙ z)) in
+      (ap (λ (x : Served). x .book) so, ap (λ (x : Served). x .outcome .list) so, ap (λ (x : Served). x .outcome .rows) so)
 
--- ---- Set up, begin and contents
+-- ---- Set up, begin and contents, where no reason applies
 
-pub set-up-leaves : (w kinds : List ℕ) → setUpReason base w kinds ≡ 0
-    → (setUp base w kinds .outcome .reply ≡ ok) × (decode base (setUp base w kinds .book) ≡ empty kinds)
+pub set-up-served : (w kinds : List ℕ) → setUpReason base w kinds ≡ 0 → setUp base w kinds ≡ served (encode base (empty kinds)) (outcome ok [] [])
 unfolding setUp
-set-up-leaves w kinds accepted =
-    let e = unless-accepted (setUpReason base w kinds) w [] (served (encode base (empty kinds)) (outcome ok [] [])) accepted in (
-      ap (λ (r : Served). r .outcome .reply) e,
-      ap (λ (r : Served). decode base (r .book)) e ∙ decoded (empty kinds) (emptied-sound kinds (set-up-accepted base w kinds accepted .sixteen) .1),
-    )
+set-up-served w kinds = unless-accepted (setUpReason base w kinds) w [] (served (encode base (empty kinds)) (outcome ok [] []))
 
-pub begin-leaves : (w : List ℕ) (t : ℕ) → beginReason base whetherSound w t ≡ 0
-    → (begin base whetherSound w t .outcome .reply ≡ ok) × (decode base (begin base whetherSound w t .book) ≡ withStatus t active (decode base w))
+pub begin-served : (w : List ℕ) (t : ℕ) → beginReason base whetherSound w t ≡ 0
+    → begin base whetherSound w t ≡ served (encode base (withStatus t active (decode base w))) (outcome ok [] [])
 unfolding begin
-begin-leaves w t accepted =
-    let s = decode base w in
-    let fits = representable w (begin-accepted base whetherSound w t accepted .sound .packed) in
-    let e = unless-accepted (beginReason base whetherSound w t) w [] (served (encode base (withStatus t active s)) (outcome ok [] [])) accepted in (
-      ap (λ (r : Served). r .outcome .reply) e,
-      ap (λ (r : Served). decode base (r .book)) e ∙ decoded (withStatus t active s) (representable-status s fits t active),
-    )
+begin-served w t =
+    unless-accepted (beginReason base whetherSound w t) w [] (served (encode base (withStatus t active (decode base w))) (outcome ok [] []))
 
-pub contents-leaves : (w : List ℕ) (o : ℕ) → contentsReason base whetherSound w o ≡ 0
-    → let r = contents base whetherSound w o in
-    let rows = objectOf (decode base w) o .rows in
-    (r .outcome .reply ≡ counted (length rows)) × (r .book ≡ w) × (r .outcome .rows ≡ joined rowWords rows)
-    × (r .outcome .rows ≡ take (2 * length rows) (drop (objectStart o + 2) w))
-unfolding contents
-contents-leaves w o accepted =
-    let rows = objectOf (decode base w) o .rows in
-    let h = contents-accepted base whetherSound w o accepted in
-    let l = kind-below base w o (h .kind .0) (h .kind .1) in
-    let n : objectStart o + 2 + 2 * length rows - (objectStart o + 2) ≡ 2 * length rows = omega arith in
-    let part = ap (λ (m : ℕ). take m (drop (objectStart o + 2) w)) (sym n) ∙ rows-part w o l (h .sound .packed) (length rows) (rows-counted w o l) in
-    let so = unless-accepted (contentsReason base whetherSound w o) w [] (served w (outcome (counted (length rows)) [] (joined rowWords rows))) accepted in
-    let handed = ap (λ (r : Served). r .outcome .rows) so in
-    (ap (λ (r : Served). r .outcome .reply) so, ap (λ (r : Served). r .book) so, handed, handed ∙ sym part)
+-- What they write is read back.
+pub read-back : (r : Served) (s : Store) → Representable base s → r ≡ served (encode base s) (outcome ok [] [])
+    → (r .outcome .reply ≡ ok) × (decode base (r .book) ≡ s)
+read-back r s fits e = (ap (λ (x : Served). x .outcome .reply) e, ap (λ (x : Served). decode base (x .book)) e ∙ decoded s fits)
+
+module _ (w : List ℕ) (o : ℕ) (accepted : contentsReason base whetherSound w o ≡ 0) where
+  abbrev rows : List Row
+  rows = objectOf (decode base w) o .rows
+
+  pub contents-served : contents base whetherSound w o ≡ served w (outcome (counted (length rows)) [] (joined rowWords rows))
+  unfolding contents
+  contents-served =
+      unless-accepted (contentsReason base whetherSound w o) w [] (served w (outcome (counted (length rows)) [] (joined rowWords rows))) accepted
+
+  -- They are that part of the book.
+  pub contents-part : joined rowWords rows ≡ take (2 * length rows) (drop (objectStart o + 2) w)
+  contents-part =
+      let h = contents-accepted base whetherSound w o accepted in
+      let l = kind-below base w o (h .kind .0) (h .kind .1) in
+      let n : objectStart o + 2 + 2 * length rows - (objectStart o + 2) ≡ 2 * length rows = omega arith in
+      sym (ap (λ (m : ℕ). take m (drop (objectStart o + 2) w)) (sym n) ∙ rows-part w o l (h .sound .packed) (length rows) (rows-counted w o l))

@@ -7,11 +7,11 @@ use mathlib.Core.Logic.{_↔_, _⊎_, inl, inr, ⊎-elim, Iff·trans}
 use mathlib.Core.List.{List, []}
 use native.Mathlib.Omega.{arith}
 use lib.ListN.{length, getD}
-use Rattle.operations.specs.Operations.{Operation, Reply, All}
+use Rattle.operations.specs.Operations.{Operation, Reply}
 use Rattle.operations.specs.PairRules.{commutes}
 use Rattle.store.specs.Store.{pseudoCommitted, Logged, Store, PseudoCommitted, pseudoCommittedCount, onObject}
 use Rattle.store.specs.Dependency.{Any, Follows, Conflict, DependsOn, Ready, Way, Path, OnCycle}
-use Rattle.store.specs.Layout.{decode, encode, base}
+use Rattle.store.specs.Layout.{decode, encode, Representable, base}
 use Rattle.store.specs.Decisions.{whetherReady, whetherOnCycle, whetherSound}
 use Rattle.store.specs.Steps.{appended, withStatus}
 use Rattle.store.specs.Theorems.{representable, decoded, cycle-any-length}
@@ -23,8 +23,7 @@ use Rattle.store.specs.Laws.Deciding.{decided}
 use Rattle.store.specs.Laws.Lists.{PairBelow, follows-some, follows-of, tabulate-getD}
 use Rattle.protocol.specs.Replies.{Response, answered, wait, finished, committed, circle, cancelled, outcome, Served, served}
 use Rattle.protocol.specs.Ending.{ended, commit, committedFirst, settledAll}
-use Rattle.protocol.specs.Terms.{Passes, Earliest, Places}
-use Rattle.protocol.specs.Laws.Blocking.{blocked-none, blocked-some}
+use Rattle.protocol.specs.Terms.{Places}
 use Rattle.protocol.specs.Laws.Detours.{joined}
 use Rattle.protocol.specs.Laws.Reasons.{unless-accepted, operate-accepted, end-accepted}
 use Rattle.protocol.specs.Calls.{blocker, request, answerTo, entered, respond, finishActive, operateReason, operate, endReason, finish, cancel, concluded}
@@ -39,18 +38,18 @@ module _ (w : List ℕ) (t o : ℕ) (requested : Operation) where
   abbrev said : Option ℕ → Response
   said b = respond base w t o requested b .outcome .reply
 
-  answered-none : (b : Option ℕ) → ((a : Reply) × (said b ≡ answered a)) ↔ (b ≡ none)
+  pub answered-none : (b : Option ℕ) → ((a : Reply) × (said b ≡ answered a)) ↔ (b ≡ none)
   answered-none none = (λ p. refl, λ e. (answerTo base requested (decode base w) o, refl))
   answered-none (some owner) = (
     λ p. let e = p .1 in clash cc,
     λ e. clash cc,
   )
 
-  waits-some : (owner : ℕ) (b : Option ℕ) → (said b ≡ wait owner) ↔ (b ≡ some owner)
+  pub waits-some : (owner : ℕ) (b : Option ℕ) → (said b ≡ wait owner) ↔ (b ≡ some owner)
   waits-some owner none = (λ e. clash cc, λ e. clash cc)
   waits-some owner (some u) = (λ e. cc, λ e. cc)
 
-  either-reply : (b : Option ℕ) → ((a : Reply) × (said b ≡ answered a)) ⊎ ((owner : ℕ) × (said b ≡ wait owner) × (respond base w t o requested b .book ≡ w))
+  pub either-reply : (b : Option ℕ) → ((a : Reply) × (said b ≡ answered a)) ⊎ ((owner : ℕ) × (said b ≡ wait owner) × (respond base w t o requested b .book ≡ w))
   either-reply none = inl (answerTo base requested (decode base w) o, refl)
   either-reply (some owner) = inr (owner, refl, refl)
 
@@ -76,15 +75,12 @@ behind x b last log = (
   ),
 )
 
-pub depends-places : (d : Logged) (log : List Logged) (a b : ℕ) → DependsOn log a b ↔ ((a ≡ b → ⊥) × Places d log a b)
-depends-places d log a b = (
-  λ h. (h .0, places (follows-some (Conflict a b) (length log) entry (subst (Follows (Conflict a b)) (sym (tabulate-getD log d)) (h .1)))),
-  λ h. (
-    h .0,
-    subst (Follows (Conflict a b)) (tabulate-getD log d)
-        (follows-of (Conflict a b) (length log) entry (h .1 .earlier) (h .1 .later) (h .1 .inOrder) (h .1 .within)
-        (h .1 .own, h .1 .owner, h .1 .object, h .1 .apart)),
-  ),
+-- An entry and a later one that conflict stand at two places of the log.
+pub conflict-places : (d : Logged) (log : List Logged) (a b : ℕ) → Follows (Conflict a b) log ↔ Places d log a b
+conflict-places d log a b = (
+  λ h. places (follows-some (Conflict a b) (length log) entry (subst (Follows (Conflict a b)) (sym (tabulate-getD log d)) h)),
+  λ p. subst (Follows (Conflict a b)) (tabulate-getD log d)
+      (follows-of (Conflict a b) (length log) entry (p .earlier) (p .later) (p .inOrder) (p .within) (p .own, p .owner, p .object, p .apart)),
 )
   where
     entry : ℕ → Logged
@@ -110,25 +106,9 @@ module _ (w : List ℕ) (t o number k v : ℕ) (accepted : operateReason base wh
   abbrev scanned : Option ℕ
   scanned = blocker t requested (onObject o (s .log))
 
-  responded : operated ≡ respond base w t o requested scanned
+  pub responded : operated ≡ respond base w t o requested scanned
   unfolding operate
   responded = unless-accepted (operateReason base whetherSound w t o number k v) w [] (respond base w t o requested scanned) accepted
-
-  pub answered-exactly : ((a : Reply) × (operated .outcome .reply ≡ answered a)) ↔ All (Passes t requested) (onObject o (s .log))
-  answered-exactly =
-      subst (λ (r : Served). ((a : Reply) × (r .outcome .reply ≡ answered a)) ↔ All (Passes t requested) (onObject o (s .log))) (sym responded)
-      (Iff·trans (answered-none w t o requested scanned) (blocked-none t requested (onObject o (s .log))))
-
-  pub waits-exactly : (owner : ℕ) → (operated .outcome .reply ≡ wait owner) ↔ Earliest t requested owner (onObject o (s .log))
-  waits-exactly owner =
-      subst (λ (r : Served). (r .outcome .reply ≡ wait owner) ↔ Earliest t requested owner (onObject o (s .log))) (sym responded)
-      (Iff·trans (waits-some w t o requested owner scanned) (blocked-some t requested owner (onObject o (s .log))))
-
-  pub answered-or-waits : ((a : Reply) × (operated .outcome .reply ≡ answered a))
-      ⊎ ((owner : ℕ) × (operated .outcome .reply ≡ wait owner) × (operated .book ≡ w))
-  answered-or-waits =
-      subst (λ (r : Served). ((a : Reply) × (r .outcome .reply ≡ answered a)) ⊎ ((owner : ℕ) × (r .outcome .reply ≡ wait owner) × (r .book ≡ w)))
-      (sym responded) (either-reply w t o requested scanned)
 
   -- The answered request's entry.
   abbrev entryOf : Reply → Logged
@@ -230,18 +210,18 @@ module _ (s : Store) (t : ℕ) (list : List ℕ) where
       by (inr (inl h)) = subst P (sym (on-nobody h)) (free h)
       by (inr (inr h)) = subst P (sym (on-others h)) (dependent h)
 
-  circle-exactly : ((n : ℕ) × (finishActive base s t list .outcome .reply ≡ circle n)) ↔ OnCycle s t
+  pub circle-exactly : ((n : ℕ) × (finishActive base s t list .outcome .reply ≡ circle n)) ↔ OnCycle s t
   circle-exactly =
       finish-by (λ (r : Served). ((n : ℕ) × (r .outcome .reply ≡ circle n)) ↔ OnCycle s t) (λ c. (λ p. c, λ p. (_, refl)))
       (λ h. (λ p. let e = p .1 in clash cc, λ c. absurd (h .0 c))) (λ h. (λ p. let e = p .1 in clash cc, λ c. absurd (h .0 c)))
 
-  committed-exactly : ((n : ℕ) × (finishActive base s t list .outcome .reply ≡ committed n)) ↔ Ready (s .log) t
+  pub committed-exactly : ((n : ℕ) × (finishActive base s t list .outcome .reply ≡ committed n)) ↔ Ready (s .log) t
   committed-exactly =
       finish-by (λ (r : Served). ((n : ℕ) × (r .outcome .reply ≡ committed n)) ↔ Ready (s .log) t)
       (λ c. (λ p. let e = p .1 in clash cc, λ r. absurd (ready-leads-nowhere (s .log) (PseudoCommitted s) 64 t t r c)))
       (λ h. (λ p. h .1, λ p. (_, refl))) (λ h. (λ p. let e = p .1 in clash cc, λ r. absurd (h .1 r)))
 
-  finished-exactly : (finishActive base s t list .outcome .reply ≡ finished) ↔ ((OnCycle s t → ⊥) × ((u : ℕ) × DependsOn (s .log) t u))
+  pub finished-exactly : (finishActive base s t list .outcome .reply ≡ finished) ↔ ((OnCycle s t → ⊥) × ((u : ℕ) × DependsOn (s .log) t u))
   finished-exactly =
       finish-by (λ (r : Served). (r .outcome .reply ≡ finished) ↔ ((OnCycle s t → ⊥) × ((u : ℕ) × DependsOn (s .log) t u)))
       (λ c. (λ e. clash cc, λ h. absurd (h .0 c))) (λ h. (λ e. clash cc, λ g. absurd (h .1 (g .1 .0) (g .1 .1))))
@@ -250,9 +230,21 @@ module _ (s : Store) (t : ℕ) (list : List ℕ) where
   abbrev OneOfThree : Response → Type 0
   OneOfThree r = ((n : ℕ) × (r ≡ circle n)) ⊎ ((n : ℕ) × (r ≡ committed n)) ⊎ (r ≡ finished)
 
-  one-of-three : OneOfThree (finishActive base s t list .outcome .reply)
+  pub one-of-three : OneOfThree (finishActive base s t list .outcome .reply)
   one-of-three =
       finish-by (λ (r : Served). OneOfThree (r .outcome .reply)) (λ c. inl (_, refl)) (λ h. inr (inl (_, refl))) (λ h. inr (inr refl))
+
+  -- Pseudo-committed, it is last in the order of finishing.
+  pub ranked-last : Representable base s → finishActive base s t list .outcome .reply ≡ finished
+      → (decode base (finishActive base s t list .book) ≡ withStatus t (pseudoCommitted (pseudoCommittedCount s)) s)
+      × (finishActive base s t list .outcome .list ≡ list)
+  ranked-last fits e =
+      let h = finished-exactly .0 e in
+      let others = on-others (h .0, λ ready. ready (h .1 .0) (h .1 .1)) in
+      let rank = pseudoCommitted (pseudoCommittedCount s) in (
+        ap (λ (r : Served). decode base (r .book)) others ∙ decoded (withStatus t rank s) (representable-status s fits t rank),
+        ap (λ (r : Served). r .outcome .list) others,
+      )
 
 module _ (w : List ℕ) (t : ℕ) (list : List ℕ) (accepted : endReason base whetherSound w t list ≡ 0) where
   abbrev book : Store
@@ -266,45 +258,5 @@ module _ (w : List ℕ) (t : ℕ) (list : List ℕ) (accepted : endReason base w
   unfolding cancel
   cancelling = unless-accepted (endReason base whetherSound w t list) w list (concluded base cancelled list (settledAll (ended t book))) accepted
 
-  abbrev finishReply : Response
-  finishReply = finish base whetherSound w t list .outcome .reply
-
-  replies : (P : Response → Type 0) → P (finishActive base book t list .outcome .reply) → P finishReply
-  replies P p = subst (λ (r : Served). P (r .outcome .reply)) (sym finishing) p
-
-  any-circle : OnCycle book t ↔ Path (DependsOn (book .log)) (PseudoCommitted book) t t
+  pub any-circle : OnCycle book t ↔ Path (DependsOn (book .log)) (PseudoCommitted book) t t
   any-circle = let h = end-accepted base whetherSound w t list accepted in cycle-any-length book (representable w (h .sound .packed) .statuses) t (h .below)
-
-  pub finishes-circle : ((n : ℕ) × (finishReply ≡ circle n)) ↔ Path (DependsOn (book .log)) (PseudoCommitted book) t t
-  finishes-circle =
-      replies (λ (r : Response). ((n : ℕ) × (r ≡ circle n)) ↔ Path (DependsOn (book .log)) (PseudoCommitted book) t t)
-      (Iff·trans (circle-exactly book t list) any-circle)
-
-  pub finishes-committed : ((n : ℕ) × (finishReply ≡ committed n)) ↔ Ready (book .log) t
-  finishes-committed =
-      replies (λ (r : Response). ((n : ℕ) × (r ≡ committed n)) ↔ Ready (book .log) t) (committed-exactly book t list)
-
-  pub finishes-finished : (finishReply ≡ finished) ↔ ((OnCycle book t → ⊥) × ((u : ℕ) × DependsOn (book .log) t u))
-  finishes-finished =
-      replies (λ (r : Response). (r ≡ finished) ↔ ((OnCycle book t → ⊥) × ((u : ℕ) × DependsOn (book .log) t u)))
-      (finished-exactly book t list)
-
-  pub finishes-so : ((n : ℕ) × (finishReply ≡ circle n)) ⊎ ((n : ℕ) × (finishReply ≡ committed n)) ⊎ (finishReply ≡ finished)
-  finishes-so =
-      replies (λ (r : Response). ((n : ℕ) × (r ≡ circle n)) ⊎ ((n : ℕ) × (r ≡ committed n)) ⊎ (r ≡ finished)) (one-of-three book t list)
-
-  pub cancels-so : (n : ℕ) × (cancel base whetherSound w t list .outcome .reply ≡ cancelled n)
-  cancels-so = (_, ap (λ (r : Served). r .outcome .reply) cancelling)
-
-  -- Pseudo-committed, it is last in the order of finishing.
-  pub pseudo-commits : finishReply ≡ finished
-      → (decode base (finish base whetherSound w t list .book) ≡ withStatus t (pseudoCommitted (pseudoCommittedCount book)) book)
-      × (finish base whetherSound w t list .outcome .list ≡ list)
-  pseudo-commits e =
-      let h = finishes-finished .0 e in
-      let others = finishing ∙ on-others book t list (h .0, λ ready. ready (h .1 .0) (h .1 .1)) in
-      let rank = pseudoCommitted (pseudoCommittedCount book) in
-      let fits = representable w (end-accepted base whetherSound w t list accepted .sound .packed) in (
-        ap (λ (r : Served). decode base (r .book)) others ∙ decoded (withStatus t rank book) (representable-status book fits t rank),
-        ap (λ (r : Served). r .outcome .list) others,
-      )

@@ -27,6 +27,14 @@ object-length x fits = omega (arith, padded-length 128 (joined rowWords (x .rows
 pub kind-written : (n : ℕ) → n ≤ 3 → kindWord (readKind n) ≡ n
 kind-written n l = each (λ (i : ℕ). kindWord (readKind i) ≡ i) 4 (refl, (refl, (refl, (refl, tt)))) n (omega arith)
 
+-- A kind in range that isn't 0 names one.
+pub kind-named : (n : ℕ) → n ≤ 3 → (n ≡ 0 → ⊥) → (kind : Kind) × (readKind n ≡ some kind)
+kind-named zero l n = absurd (n refl)
+kind-named (suc zero) l n = (Stack, refl)
+kind-named (suc (suc zero)) l n = (Set, refl)
+kind-named (suc (suc (suc zero))) l n = (Table, refl)
+kind-named (suc (suc (suc (suc k)))) l n = absurd (omega arith)
+
 module _ (w : List ℕ) (o : ℕ) (packed : ObjectPacked w o) where
   row-written : (i j : ℕ) → j < 2 → word (rowWords (rowAt w o i)) j ≡ word w (objectStart o + 2 + (2 * i + j))
   row-written i =
