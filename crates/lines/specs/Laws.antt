@@ -1,0 +1,5 @@
+pub mod Calls
+pub mod Fields
+pub mod Reading
+pub mod Lengths
+pub mod Letters

@@ -1,0 +1,5 @@
+pub mod Lines
+pub mod Requests
+pub mod Samples
+pub mod Theorems
+pub mod Laws

@@ -1,0 +1,127 @@
+-- `replies::put_numbers`: each case's numbers.
+use native.Mathlib.Omega.{arith}
+use borrow.Author.Needs.{needs}
+use Rattle.text.specs.Laws.Putting.{nothing}
+use Rattle.replies.specs.Laws.Printing.{field-fits, two-fields, numbered}
+use Rattle.replies.proofs.put_numbers.Statement.{statement}
+use Rattle.replies.proofs.put_numbers.Tie as tie
+
+-- ---- Every number fits
+
+code-fits : tie.Need-put-field-requires
+code-fits c κs =
+    let a = c .before .before .before .before .before .before in
+    field-fits (a .args .at) _ _ (omega (arith, c .before .known-told .given .0)) (omega (arith, a .pre .0))
+
+owner-fits : tie.Need-put-field-requires-3
+owner-fits c κs =
+    let a = c .before .before .before .before .before .before in
+    field-fits (a .args .at) _ _ (omega (arith, c .before .known-told2 .given .0)) (omega (arith, a .pre .0))
+
+rows-fits : tie.Need-put-field-requires-4
+rows-fits c κs =
+    let a = c .before .before .before .before .before .before in
+    field-fits (a .args .at) _ _ (omega (arith, c .before .known-told6 .given .0)) (omega (arith, a .pre .0))
+
+reason-fits : tie.Need-put-field-requires-5
+reason-fits c κs =
+    let a = c .before .before .before .before .before .before in
+    field-fits (a .args .at) _ _ (omega (arith, c .before .known-told7 .given .0)) (omega (arith, a .pre .0))
+
+value-fits : tie.Need-put-field-requires-2
+value-fits c κs =
+    let a = c .before .before .before .before .before .before .before .before .before .before in
+    let code = c .before .before .before .put-field in
+    field-fits (code .result) _ _ (omega (arith, c .before .before .before .before .before .known-told .given .1 .0)) (omega (arith, a .pre .0, code .ensures .1, code .kept .0))
+
+-- ---- What each case leaves
+
+ok : tie.Need-returns
+ok c =
+    let a = c .before .before .before .before .args in
+    numbered _ (c .enum-told .given .1) (a .list .now) (nothing (a .out .now) (a .at)) (omega arith)
+
+finished : tie.Need-returns-4
+finished c =
+    let a = c .before .before .before .before .args in
+    numbered _ (c .enum-told2 .given .1) (a .list .now) (nothing (a .out .now) (a .at)) (omega arith)
+
+answered : tie.Need-returns-2
+answered c =
+    let a = c .before .before .before .before .before .before .before .before .before .before .before .before .before in
+    let code = c .before .before .before .before .before .before .put-field in
+    let value = c .before .before .put-field2 in
+    numbered _ (c .before .before .before .before .before .before .before .before .before .response .given .1) (a .args .list .now)
+    (two-fields _ _ (field-fits (a .args .at) _ _ (omega (arith, c .before .before .before .before .before .before .before .before .known-told .given .0)) (omega (arith, a .pre .0))) (code .ensures .0)
+    (value .ensures .0)) (omega (arith, code .ensures .1, value .ensures .1))
+
+wait : tie.Need-returns-3
+wait c =
+    let put = c .before .before .put-field3 .ensures in
+    numbered _ (c .before .before .before .before .before .response2 .given .1) (c .before .before .before .before .before .before .before .before .before .args .list .now) (put .0) (omega (arith, put .1))
+
+counted : tie.Need-returns-8
+counted c =
+    let put = c .before .before .put-field4 .ensures in
+    numbered _ (c .before .before .before .before .before .response6 .given .1) (c .before .before .before .before .before .before .before .before .before .args .list .now) (put .0) (omega (arith, put .1))
+
+refused : tie.Need-returns-9
+refused c =
+    let put = c .before .before .put-field5 .ensures in
+    numbered _ (c .before .before .before .before .before .response7 .given .1) (c .before .before .before .before .before .before .before .before .before .args .list .now) (put .0) (omega (arith, put .1))
+
+committed : tie.Need-returns-5
+committed c =
+    let a = c .before .before .before .before .before .before .before .before .before in
+    let put = c .before .before .put-front .ensures in
+    numbered _ (c .before .before .before .before .before .response3 .given .1) (a .args .list .now) (put .0) (omega (arith, put .1, a .pre .1))
+
+circle : tie.Need-returns-6
+circle c =
+    let a = c .before .before .before .before .before .before .before .before .before in
+    let put = c .before .before .put-front2 .ensures in
+    numbered _ (c .before .before .before .before .before .response4 .given .1) (a .args .list .now) (put .0) (omega (arith, put .1, a .pre .1))
+
+cancelled : tie.Need-returns-7
+cancelled c =
+    let a = c .before .before .before .before .before .before .before .before .before in
+    let put = c .before .before .put-front3 .ensures in
+    numbered _ (c .before .before .before .before .before .response5 .given .1) (a .args .list .now) (put .0) (omega (arith, put .1, a .pre .1))
+
+pub put-numbers-spec : {M : Type 1} → statement M
+put-numbers-spec =
+    tie.close
+    (tie.spec
+    (λ c. search needs)
+    (λ c. search needs)
+    code-fits
+    value-fits
+    (λ c. search needs)
+    owner-fits
+    (λ c. search needs)
+    (λ c. search needs)
+    (λ c κs. search needs)
+    (λ c. search needs)
+    (λ c κs. search needs)
+    (λ c. search needs)
+    (λ c κs. search needs)
+    (λ c. search needs)
+    rows-fits
+    (λ c. search needs)
+    reason-fits
+    ok
+    (λ c. search needs)
+    answered
+    (λ c. search needs)
+    wait
+    finished
+    (λ c. search needs)
+    committed
+    (λ c. search needs)
+    circle
+    (λ c. search needs)
+    cancelled
+    (λ c. search needs)
+    counted
+    (λ c. search needs)
+    refused)

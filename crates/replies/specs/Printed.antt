@@ -1,0 +1,39 @@
+-- Document 01, "Script program": a reply as it is printed, without its line feed.
+use Prim.Native.Nat.{ℕ}
+use Prim.Native.Char.{code}
+use mathlib.Core.List.{List, [], _∷_, _++_}
+use lib.ListN.{take}
+use Rattle.protocol.specs.Replies.{Response, ok, answered, wait, finished, committed, circle, cancelled, counted, refused}
+use Rattle.text.specs.Text.{ascii, decimal}
+
+-- The twin of contents has no letter: no script's line is answered with how many rows were counted.
+abbrev pub wordOf : Response → List ℕ
+wordOf ok = ascii "ok"
+wordOf (answered reply) = ascii "answer"
+wordOf (wait owner) = ascii "wait"
+wordOf finished = ascii "finished"
+wordOf (committed count) = ascii "committed"
+wordOf (circle count) = ascii "circle"
+wordOf (cancelled count) = ascii "cancelled"
+wordOf (counted rows) = ascii "counted"
+wordOf (refused reason) = ascii "refused"
+
+-- The numbers behind the word; those that committed stand at the front of the list.
+abbrev pub numbersOf : Response → List ℕ → List ℕ
+numbersOf ok list = []
+numbersOf (answered reply) list = reply .code ∷ reply .value ∷ []
+numbersOf (wait owner) list = owner ∷ []
+numbersOf finished list = []
+numbersOf (committed count) list = take count list
+numbersOf (circle count) list = take count list
+numbersOf (cancelled count) list = take count list
+numbersOf (counted rows) list = rows ∷ []
+numbersOf (refused reason) list = reason ∷ []
+
+-- Numbers, a space before each.
+abbrev pub spaced : List ℕ → List ℕ
+spaced [] = []
+spaced (n ∷ numbers) = code " " ∷ (decimal n ++ spaced numbers)
+
+unfoldable pub printed : Response → List ℕ → List ℕ
+printed reply list = wordOf reply ++ spaced (numbersOf reply list)

@@ -1,0 +1,46 @@
+-- `script::take_line`: what is left of the block, or a line that ends in it.
+use mathlib.Core.Path.{sym}
+use native.Mathlib.Omega.{arith}
+use borrow.Author.Needs.{needs}
+use lib.Seq.{length-take-le}
+use Rattle.script.specs.Laws.Taking.{took-rest, took-line}
+use Rattle.script.proofs.take_line.Statement.{statement}
+use Rattle.script.proofs.take_line.Tie as tie
+
+rest : tie.Need-returns
+rest c =
+    let a = c .before .before .before .before .before .before .before .before .before .before .before in
+    let keep = c .before .before .before .keep in
+    took-rest (a .args .book .now) (a .args .line .now) (a .args .block .now) (a .args .out .now) (a .args .from) (a .pre .1) (a .pre .0) (a .pre .2)
+    (a .pre .3) _ (c .before .before .before .before .before .before .find .ensures .0) _ _ (keep .ensures) (c .if1 .taken)
+
+kept-there : tie.Need-slice-aggregate-answer
+kept-there c =
+    let keep = c .before .before .before .before .before .keep in sym (length-take-le (keep .result) (keep .last .0) (omega (arith, keep .ensures .0, keep .ensures .2)))
+
+line : tie.Need-returns-2
+line c =
+    let a = c .before .before .before .before .before .before .before .before .before .before .before .before .before .before .before .before .before .before .before in
+    let find = c .before .before .before .before .before .before .before .before .before .before .before .before .before .before .find in
+    took-line (a .args .book .now) (a .args .line .now) (a .args .block .now) (a .args .out .now) (a .args .from) (a .pre .1) (a .pre .0) (a .pre .2)
+    (a .pre .3) _ (find .ensures .0) _ _ (c .before .before .before .before .before .before .before .before .before .before .before .keep .ensures) (omega (arith, find .ensures .1, c .before .before .before .before .before .before .before .before .if1 .left)) (c .before .before .before .before .answer .ensures)
+
+pub take-line-spec : {M : Type 1} → statement M
+take-line-spec =
+    tie.close
+    (tie.spec
+    (λ c κs. search needs)
+    (λ c. search needs)
+    (λ c. search needs)
+    (λ c. search needs)
+    (λ c κs. search needs)
+    (λ c. search needs)
+    rest
+    (λ c. search needs)
+    (λ c. search needs)
+    kept-there
+    (λ c κs. search needs)
+    (λ c. search needs)
+    (λ c. search needs)
+    (λ c. search needs)
+    line)
