@@ -1,0 +1,18 @@
+//! The outside checks: a desk's script program, run as a black box, is held to the second implementation's program and
+//! to its own serial history. Of the desk under test nothing is known but the paper.
+//!
+//! The desk's program is found at `target/bin/lending_desk` below the repository's root, or where `LENDING_DESK` says;
+//! the second implementation's where `cargo build --release` puts it, or where `REFERENCE_DESK` says.
+
+/// What the second implementation's tests share.
+#[path = "../../reference/tests/common/mod.rs"]
+pub mod common;
+pub mod damage;
+pub mod difference;
+pub mod drawing;
+pub mod profiles;
+pub mod program;
+pub mod replies;
+pub mod script;
+pub mod serial;
+pub mod tally;

@@ -1,0 +1,68 @@
+//! Replies as a program prints them, read to the letter.
+
+use reference::{Outcome, Refusal, Reply};
+
+use crate::common::shown;
+
+/// Every reason for saying no.
+const REFUSALS: [Refusal; 11] = [
+    Refusal::StoreLength,
+    Refusal::ListLength,
+    Refusal::Kinds,
+    Refusal::Unsound,
+    Refusal::TransactionNumber,
+    Refusal::Live,
+    Refusal::NotActive,
+    Refusal::Object,
+    Refusal::Operation,
+    Refusal::LogFull,
+    Refusal::RowsFull,
+];
+
+/// What a line of output says of its line of input.
+#[derive(Clone, Debug, PartialEq, Eq)]
+pub enum Printed {
+    Unread,
+    /// An outcome, with the transactions that stand after it where it counts some.
+    Said(Outcome, Vec<u8>),
+}
+
+/// Reads a line of output without its line feed; none where it is not, byte by byte, one that the paper has.
+pub fn read(line: &[u8]) -> Option<Printed> {
+    let line = std::str::from_utf8(line).ok()?;
+    if line == "unread" {
+        return Some(Printed::Unread);
+    }
+    let mut words = line.split(' ');
+    let word = words.next()?;
+    let numbers: Vec<u32> = words.map(|number| number.parse().ok()).collect::<Option<_>>()?;
+    let outcome = outcome(word, &numbers)?;
+    let list = listed(outcome, &numbers)?;
+    (shown(outcome, &list) == line).then_some(Printed::Said(outcome, list))
+}
+
+fn outcome(word: &str, numbers: &[u32]) -> Option<Outcome> {
+    let count = numbers.len();
+    let reply = match (word, numbers) {
+        ("refused", &[number]) => return REFUSALS.into_iter().find(|refusal| refusal.number() == number).map(Err),
+        ("ok", []) => Reply::Ok,
+        ("answer", &[code, value]) => Reply::Answer { code, value },
+        ("wait", &[owner]) => Reply::Wait { owner },
+        ("finished", []) => Reply::Finished,
+        ("committed", _) => Reply::Committed { count },
+        ("circle", _) => Reply::Circle { count },
+        ("cancelled", _) => Reply::Cancelled { count },
+        _ => return None,
+    };
+    Some(Ok(reply))
+}
+
+/// The transactions in the list; none where one of them is no byte.
+fn listed(outcome: Outcome, numbers: &[u32]) -> Option<Vec<u8>> {
+    match outcome {
+        Ok(Reply::Committed { .. } | Reply::Circle { .. } | Reply::Cancelled { .. }) => {
+            numbers.iter().map(|&number| number.try_into().ok()).collect()
+        }
+        _ => Some(Vec::new()),
+    }
+}

@@ -1,0 +1,301 @@
+//! The desk's program as a process: bytes of every kind, in every portion, and at any length.
+
+use std::fs::OpenOptions;
+use std::io::{BufRead, BufReader, Read, Write};
+use std::process::{Child, ChildStdin, Stdio};
+use std::sync::mpsc::{self, Receiver};
+use std::thread;
+use std::time::{Duration, Instant};
+
+use comparison::common::draws::Draws;
+use comparison::difference;
+use comparison::program::{self, take_input, Program};
+
+/// What a program may take to answer a line or to end.
+const PATIENCE: Duration = Duration::from_secs(30);
+/// Lines of every letter, some unread, the last one without its line feed.
+const SCRIPT: &[u8] =
+    b"S 1 2 3\nB 0\nB 63\nI 0 0 1 4294967295 0\n\nI 63 0 1 9 0\nI 63 2 7 16777221 3\nX\nF 63\nI 0 2 9 5 0\nF 0\n\
+B 1\nI 1 0 2 0 0\nI 1 0 2 0 0\nI 1 2 9 5 0\nC 1\nB 64";
+const REPLIES: &[u8] =
+    b"ok\nok\nok\nanswer 1 0\nunread\nanswer 1 0\nanswer 1 0\nunread\nfinished\nwait 63\ncommitted 0 63\n\
+ok\nanswer 1 9\nanswer 1 4294967295\nanswer 1 3\ncancelled\nrefused 5\n";
+
+/// Asserts that both programs, each run as told, print the same and end well.
+fn assert_same(run: impl Fn(&Program) -> Result<Vec<u8>, String>, what: &str) -> Vec<u8> {
+    let [output, expected] = Program::both().map(|program| run(&program).expect(what));
+    if let Some(difference) = difference::first(&output, &expected) {
+        panic!("{what}: reply {}: {difference}", difference.line + 1);
+    }
+    output
+}
+
+fn line_feeds(bytes: &[u8]) -> usize {
+    bytes.iter().filter(|&&byte| byte == b'\n').count()
+}
+
+#[test]
+fn each_line_of_any_bytes_gets_one_reply_line() {
+    for seed in 0..300 {
+        let mut draws = Draws::new(seed);
+        let choices: &[u8] = if draws.percent(50) { b"\n\n\nSBIFC  0123456789" } else { b"\n\r\0B 1\xff" };
+        let any = draws.percent(30);
+        let draw_byte = |_| if any { draws.word() as u8 } else { draws.pick(choices) };
+        let input: Vec<u8> = (0..1 + seed as usize * 10).map(draw_byte).collect();
+        let output = assert_same(|program| program.run(&input), &format!("seed {seed}"));
+        let lines = line_feeds(&input) + usize::from(input.last() != Some(&b'\n'));
+        assert_eq!(line_feeds(&output), lines, "seed {seed}");
+    }
+}
+
+#[test]
+fn inputs_of_hardly_anything() {
+    let desk = Program::lending_desk();
+    let cases: [(&[u8], &[u8]); 8] = [
+        (b"", b""),
+        (b"\n", b"unread\n"),
+        (b"\n\n", b"unread\nunread\n"),
+        (b" ", b"unread\n"),
+        (b"S", b"ok\n"),
+        (b"S\n", b"ok\n"),
+        (b"\0", b"unread\n"),
+        (b"B 0\nB 0", b"ok\nrefused 6\n"),
+    ];
+    for (input, expected) in cases {
+        assert_eq!(desk.run(input).as_deref(), Ok(expected), "{}", input.escape_ascii());
+    }
+}
+
+#[test]
+fn line_of_many_megabytes_is_one_line() {
+    const LENGTH: usize = 12 << 20;
+    let desk = Program::lending_desk();
+    for byte in [b' ', b'0', b'\0', b'S'] {
+        let mut input = vec![byte; LENGTH];
+        assert_eq!(desk.run_long(&input).as_deref(), Ok(&b"unread\n"[..]), "bytes {byte}, at the end");
+        input.splice(0..0, *b"S 1\nB 7\nB 8");
+        input.extend(b"\nB 7\n");
+        let expected = Ok(&b"ok\nok\nunread\nrefused 6\n"[..]);
+        assert_eq!(desk.run_long(&input).as_deref(), expected, "bytes {byte}, between others");
+    }
+}
+
+#[test]
+fn many_megabytes_of_short_lines_are_answered_each() {
+    let mut draws = Draws::new(1);
+    let mut input = Vec::new();
+    while input.len() < 8 << 20 {
+        let bad: &[u8] =
+            draws.pick(&[b"\n", b"B\n", b"X 1\n", b"b 0\n", b"B 4294967296\n", b"\0\xff\n", b"S 1 2 3 \n"]);
+        input.extend(bad);
+    }
+    input.extend(b"S 1 2 3\nB 0\nI 0 0 1 7 0\nI 0 1 4 5 0\nI 0 0 2 0 0\nF 0\nB 1\nC 1\n".repeat(40_000));
+    let output = assert_same(|program| program.run_long(&input), "long input");
+    assert_eq!(line_feeds(&output), line_feeds(&input));
+}
+
+/// A program that is talked to, its output read as it comes.
+struct Talk {
+    program: Child,
+    input: Option<ChildStdin>,
+    output: Receiver<Vec<u8>>,
+}
+
+impl Talk {
+    fn start() -> Self {
+        let mut program = Program::lending_desk().start(Stdio::piped(), Stdio::piped());
+        let input = Some(take_input(&mut program));
+        let mut stdout = BufReader::new(program.stdout.take().expect("piped"));
+        let (sender, output) = mpsc::channel();
+        thread::spawn(move || loop {
+            let mut line = Vec::new();
+            match stdout.read_until(b'\n', &mut line) {
+                Ok(length) if length > 0 && sender.send(line).is_ok() => {}
+                _ => return,
+            }
+        });
+        Talk { program, input, output }
+    }
+
+    fn write(&mut self, bytes: &[u8]) {
+        let input = self.input.as_mut().expect("open");
+        input.write_all(bytes).and_then(|()| input.flush()).expect("the program reads");
+    }
+
+    /// The next reply.
+    fn read(&self) -> String {
+        let line = self.output.recv_timeout(PATIENCE).expect("a reply before more is written");
+        String::from_utf8(line).expect("replies are ASCII")
+    }
+
+    /// Waits until the program has read what was written and sleeps for want of more.
+    #[cfg(target_os = "linux")]
+    fn wait_until_asleep(&self) {
+        let start = Instant::now();
+        while !program::is_asleep(self.program.id()) {
+            assert!(start.elapsed() < PATIENCE, "the program should wait for input");
+            thread::yield_now();
+        }
+    }
+
+    /// Ends the input and hands back what is still printed.
+    fn end(mut self) -> Vec<u8> {
+        drop(self.input.take());
+        let rest = self.output.iter().flatten().collect();
+        assert!(self.program.wait().expect("it ends").success());
+        rest
+    }
+}
+
+impl Drop for Talk {
+    /// Ends a program that a failed check leaves behind.
+    fn drop(&mut self) {
+        let _ = self.program.kill();
+        let _ = self.program.wait();
+    }
+}
+
+#[test]
+fn each_line_is_answered_before_more_is_waited_for() {
+    let mut talk = Talk::start();
+    let mut replies = difference::lines(REPLIES);
+    for line in difference::lines(SCRIPT).filter(|line| line.ends_with(b"\n")) {
+        talk.write(line);
+        assert_eq!(talk.read().as_bytes(), replies.next().expect("a reply to each line"), "{}", line.escape_ascii());
+    }
+    talk.write(b"B 64");
+    assert_eq!(talk.end(), b"refused 5\n");
+}
+
+#[test]
+fn lines_written_at_once_are_answered_at_once() {
+    let mut talk = Talk::start();
+    talk.write(SCRIPT);
+    let (answered, last) = REPLIES.split_at(REPLIES.len() - b"refused 5\n".len());
+    for reply in difference::lines(answered) {
+        assert_eq!(talk.read().as_bytes(), reply);
+    }
+    talk.write(b"\nB 5\n B 6\nB 5");
+    let rest: Vec<String> = (0..3).map(|_| talk.read()).collect();
+    assert_eq!(rest.concat(), "refused 5\nok\nunread\n");
+    assert_eq!(last, b"refused 5\n");
+    assert_eq!(talk.end(), b"refused 6\n");
+}
+
+#[cfg(target_os = "linux")]
+#[test]
+fn line_written_in_pieces_is_one_line() {
+    let mut talk = Talk::start();
+    for piece in [&b"S"[..], b" 1", b" ", b"2\nB", b" 000", b"0000", b"001", b"\n", b"\n", b"B 1\nI 1 0 ", b"1 7 0"] {
+        talk.write(piece);
+        talk.wait_until_asleep();
+    }
+    let replies: Vec<String> = (0..4).map(|_| talk.read()).collect();
+    assert_eq!(replies.concat(), "ok\nok\nunread\nrefused 6\n");
+    assert_eq!(talk.end(), b"answer 1 0\n");
+}
+
+#[cfg(target_os = "linux")]
+#[test]
+fn script_cut_in_two_at_any_place_prints_the_same() {
+    for cut in 0..=SCRIPT.len() {
+        let mut talk = Talk::start();
+        talk.write(&SCRIPT[..cut]);
+        talk.wait_until_asleep();
+        talk.write(&SCRIPT[cut..]);
+        assert_eq!(talk.end(), REPLIES, "cut before byte {cut}");
+    }
+}
+
+#[cfg(target_os = "linux")]
+#[test]
+fn script_cut_in_small_pieces_prints_the_same() {
+    for length in 1..=9 {
+        let mut talk = Talk::start();
+        for piece in SCRIPT.chunks(length) {
+            talk.wait_until_asleep();
+            talk.write(piece);
+        }
+        assert_eq!(talk.end(), REPLIES, "pieces of {length}");
+    }
+}
+
+/// All but what a pipe holds of the line is read by the time the whole of it is written.
+#[cfg(target_os = "linux")]
+#[test]
+fn memory_stays_fixed_however_long_a_line_is() {
+    const LINE_KIBIBYTES: usize = 64 << 10;
+    let mut talk = Talk::start();
+    for _ in 0..LINE_KIBIBYTES {
+        talk.write(&[b'0'; 1 << 10]);
+    }
+    let peak = program::peak_kibibytes(talk.program.id());
+    assert!(peak < LINE_KIBIBYTES / 4, "{peak} KiB for a line of {LINE_KIBIBYTES} KiB");
+    talk.write(b"\n");
+    assert_eq!(talk.read(), "unread\n");
+    assert_eq!(talk.end(), b"");
+}
+
+#[cfg(target_os = "linux")]
+#[test]
+fn memory_stays_fixed_however_many_lines_there_are() {
+    const LINES_KIBIBYTES: usize = 8 << 10;
+    let mut talk = Talk::start();
+    let lines = b"S 1 2\nB 7\n\nI 7 0 1 9 0\nI 7 1 4 9 0\nX\nF 7\n ";
+    let some = lines.repeat((1 << 10) / lines.len());
+    let mut peaks = Vec::new();
+    for kibibyte in 0..=LINES_KIBIBYTES {
+        talk.write(&some);
+        (0..line_feeds(&some)).for_each(|_| drop(talk.read()));
+        if kibibyte == 100 || kibibyte == LINES_KIBIBYTES {
+            peaks.push(program::peak_kibibytes(talk.program.id()));
+        }
+    }
+    assert!(peaks[1] - peaks[0] < LINES_KIBIBYTES / 4, "{peaks:?} KiB for lines of {LINES_KIBIBYTES} KiB");
+    assert_eq!(talk.end(), b"unread\n");
+}
+
+/// The input goes on, so that it is the failing write that ends the program.
+#[cfg(target_os = "linux")]
+#[test]
+fn failing_write_ends_the_program_with_a_message() {
+    let full = OpenOptions::new().write(true).open("/dev/full").expect("Linux has it");
+    let mut program = Program::lending_desk().start(Stdio::piped(), full.into());
+    let mut input = take_input(&mut program);
+    let _ = input.write_all(b"B 0\n");
+    let start = Instant::now();
+    while program.try_wait().expect("it can be waited for").is_none() {
+        if start.elapsed() > PATIENCE {
+            let _ = program.kill();
+            panic!("the program goes on");
+        }
+        thread::sleep(Duration::from_millis(1));
+    }
+    let mut message = String::new();
+    program.stderr.take().expect("piped").read_to_string(&mut message).expect("text");
+    assert!(!message.trim().is_empty(), "no message");
+}
+
+/// Sizes of blocks that a program may read or write at once.
+const BLOCKS: [usize; 9] = [128, 512, 1024, 4096, 8192, 16_384, 32_768, 65_536, 131_072];
+
+/// Before the call come lines up to the byte given: one long one, or many empty ones.
+#[test]
+fn calls_across_the_edges_of_blocks_are_read_whole() {
+    let desk = Program::lending_desk();
+    let call = "I 1 0 1 4294967295 0\n";
+    for block in BLOCKS {
+        for start in block - call.len() - 1..=block + 2 {
+            for padding in [b'x', b'\n'] {
+                let before = [b"S 1\nB 1\n", &vec![padding; start - 9][..], b"\n"].concat();
+                assert_eq!(before.len(), start);
+                let unread = "unread\n".repeat(line_feeds(&before) - 2);
+                let expected = format!("ok\nok\n{unread}answer 1 0\nanswer 1 4294967295\ncommitted 1\n");
+                let input = [&before, call.as_bytes(), b"I 1 0 3 0 0\nF 1"].concat();
+                for output in [desk.run_long(&input), desk.run_on_file(&input)] {
+                    assert!(output.as_deref() == Ok(expected.as_bytes()), "a call at byte {start}");
+                }
+            }
+        }
+    }
+}

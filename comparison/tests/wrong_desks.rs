@@ -1,0 +1,267 @@
+//! The checks notice what wrong desks would print, by comparison and, where demand 3 is broken, by the history alone.
+
+use comparison::common::{call_of, printed, transcript_lines};
+use comparison::difference;
+use comparison::drawing::draw;
+use comparison::profiles::PROFILES;
+use comparison::script::{Line, Script};
+use comparison::serial::{self, Broken};
+use reference::script::parse;
+
+/// A script, and what is printed for it.
+struct Case {
+    script: Script,
+    replies: Vec<String>,
+}
+
+impl Case {
+    /// A case written as in the paper: on each line a call, two spaces or more, what is said to it.
+    fn of(transcript: &str) -> Self {
+        let (lines, replies) = transcript_lines(transcript)
+            .map(|(call, reply)| (Line { bytes: call.into(), call: Some(call_of(call)) }, reply.to_string()))
+            .unzip();
+        Case { script: Script { lines, open_end: false }, replies }
+    }
+
+    fn output(&self) -> Vec<u8> {
+        self.replies.iter().flat_map(|reply| [reply.as_bytes(), b"\n"].concat()).collect()
+    }
+
+    /// What the comparison says, the second implementation being right.
+    fn difference(&self) -> Option<usize> {
+        let expected = printed(&self.script.bytes()[..]);
+        difference::first(&self.output(), expected.as_bytes()).map(|difference| difference.line)
+    }
+
+    /// What the history alone says.
+    fn broken(&self) -> Option<Broken> {
+        serial::check(&self.script, &self.output(), 0).err()
+    }
+
+    fn assert_right(&self) {
+        assert_eq!(self.difference(), None);
+        assert_eq!(self.broken(), None);
+    }
+
+    fn assert_noticed_by_both(&self, what: &str) {
+        assert!(self.difference().is_some(), "comparison: {what}");
+        assert!(self.broken().is_some(), "history: {what}");
+    }
+}
+
+/// Three push, two of them finished first; a fourth reads what they have left.
+fn chain() -> Case {
+    Case::of(
+        "S 1             ok
+         B 5             ok
+         B 3             ok
+         B 4             ok
+         I 5 0 1 7 0     answer 1 0
+         I 3 0 1 8 0     answer 1 0
+         I 4 0 1 9 0     answer 1 0
+         F 3             finished
+         F 4             finished
+         F 5             committed 5 3 4
+         B 0             ok
+         I 0 0 2 0 0     answer 1 9
+         I 0 0 2 0 0     answer 1 8
+         I 0 0 3 0 0     answer 1 7
+         F 0             committed 0",
+    )
+}
+
+/// The chain with another reply to one of its lines.
+fn chain_with(line: usize, from: &str, to: &str) -> Case {
+    let mut case = chain();
+    assert_eq!(case.replies[line], from);
+    case.replies[line] = to.to_string();
+    case
+}
+
+#[test]
+fn right_output_passes() {
+    chain().assert_right();
+}
+
+#[test]
+fn changed_replies_are_noticed() {
+    for (line, from, to) in [
+        (0, "ok", "unread"),
+        (0, "ok", "refused 5"),
+        (1, "ok", "refused 3"),
+        (4, "answer 1 0", "answer 1 7"),
+        (4, "answer 1 0", "answer 0 0"),
+        (4, "answer 1 0", "wait 5"),
+        (4, "answer 1 0", "wait 9"),
+        (4, "answer 1 0", "ok"),
+        (7, "finished", "committed 3"),
+        (7, "finished", "circle"),
+        (9, "committed 5 3 4", "committed 5 4 3"),
+        (9, "committed 5 3 4", "committed 3 5 4"),
+        (9, "committed 5 3 4", "committed 5 3"),
+        (9, "committed 5 3 4", "committed 5 3 4 4"),
+        (9, "committed 5 3 4", "committed 5 3 4 2"),
+        (9, "committed 5 3 4", "committed"),
+        (9, "committed 5 3 4", "finished"),
+        (9, "committed 5 3 4", "circle 3 4"),
+        (11, "answer 1 9", "answer 1 8"),
+        (11, "answer 1 9", "answer 0 0"),
+        (12, "answer 1 8", "answer 1 4294967295"),
+        (14, "committed 0", "cancelled"),
+        (14, "committed 0", "refused 4"),
+    ] {
+        chain_with(line, from, to).assert_noticed_by_both(&format!("line {line}: {to} and not {from}"));
+    }
+}
+
+#[test]
+fn replies_not_to_the_letter_are_noticed() {
+    for to in ["committed 5 3 04", "committed 5 3 4 ", "committed  5 3 4", "Committed 5 3 4", "committed 5 3 +4", ""] {
+        chain_with(9, "committed 5 3 4", to).assert_noticed_by_both(to);
+    }
+    for to in ["answer 1", "answer 1 0 0", "answer 1 4294967296", "answer 2 0", "refused 0", "refused 12", "ok\r"] {
+        chain_with(4, "answer 1 0", to).assert_noticed_by_both(to);
+    }
+}
+
+#[test]
+fn missing_and_surplus_lines_are_noticed() {
+    for line in 0..chain().replies.len() {
+        let mut case = chain();
+        case.replies.remove(line);
+        case.assert_noticed_by_both("one missing");
+        let mut case = chain();
+        case.replies.insert(line, case.replies[line].clone());
+        case.assert_noticed_by_both("one too many");
+    }
+}
+
+#[test]
+fn missing_last_line_feed_is_noticed() {
+    let (script, mut output) = (chain().script, chain().output());
+    output.pop();
+    let expected = chain().output();
+    assert!(difference::first(&output, &expected).is_some());
+    assert!(serial::check(&script, &output, 0).is_err());
+}
+
+/// Another answer to an operation is noticed by the history alone, wherever it stands.
+#[test]
+fn changed_answers_in_random_scripts_are_noticed() {
+    let mut changed = 0;
+    for seed in 0..60 {
+        for profile in PROFILES.iter().filter(|profile| profile.lines.0 < 100) {
+            let script = draw(profile, seed);
+            let output = printed(&script.bytes()[..]);
+            let mut case = Case { script, replies: output.lines().map(String::from).collect() };
+            case.assert_right();
+            let answers = |(_, reply): &(usize, &String)| reply.starts_with("answer ");
+            if let Some((last, _)) = case.replies.iter().enumerate().rfind(answers) {
+                let struck_out = case.replies[last..].iter().any(|reply| reply.starts_with('c'));
+                case.replies[last].push('1');
+                assert!(case.difference().is_some());
+                assert!(struck_out || case.broken().is_some(), "{:?}, seed {seed}", profile.name);
+                changed += usize::from(!struck_out);
+            }
+        }
+    }
+    assert!(changed >= 100, "{changed} changed");
+}
+
+/// The generator knows what its lines are.
+#[test]
+fn lines_of_random_scripts_are_the_calls_they_are_said_to_be() {
+    for profile in &PROFILES {
+        for seed in 0..profile.scripts.min(40) {
+            for Line { bytes, call } in draw(profile, seed).lines {
+                assert_eq!(parse(&bytes), call, "{}", bytes.escape_ascii());
+            }
+        }
+    }
+}
+
+// What a desk would print that took one of the paper's plausible shortcuts.
+
+#[test]
+fn desk_that_cancels_by_putting_back_saved_rows_is_noticed() {
+    let case = Case::of(
+        "S 2             ok
+         B 0             ok
+         B 1             ok
+         I 0 0 4 4 0     answer 1 0
+         I 1 0 4 5 0     answer 1 0
+         F 1             committed 1
+         C 0             cancelled
+         B 2             ok
+         I 2 0 6 5 0     answer 0 0",
+    );
+    case.assert_noticed_by_both("the row of 5 is lost");
+}
+
+#[test]
+fn desk_that_looks_at_the_newest_entry_alone_is_noticed() {
+    let case = Case::of(
+        "S 2             ok
+         B 0             ok
+         B 1             ok
+         B 2             ok
+         I 0 0 4 4 0     answer 1 0
+         I 1 0 4 5 0     answer 1 0
+         I 2 0 6 4 0     answer 1 0",
+    );
+    case.assert_noticed_by_both("2 should wait for 0");
+}
+
+#[test]
+fn desk_that_cancels_the_finished_with_those_they_depend_on_is_noticed() {
+    let case = Case::of(
+        "S 1             ok
+         B 0             ok
+         B 1             ok
+         I 0 0 1 7 0     answer 1 0
+         I 1 0 1 9 0     answer 1 0
+         F 1             finished
+         C 0             cancelled
+         B 2             ok
+         I 2 0 2 0 0     answer 0 0",
+    );
+    case.assert_noticed_by_both("1 should be committed");
+}
+
+/// Demand 3 lets it through: who is cancelled too soon alters nobody's answer.
+#[test]
+fn desk_that_calls_a_circle_through_an_open_handout_is_noticed_by_comparison() {
+    let case = Case::of(
+        "S 1 1           ok
+         B 0             ok
+         B 1             ok
+         I 0 0 1 1 0     answer 1 0
+         I 1 0 1 2 0     answer 1 0
+         I 1 1 1 3 0     answer 1 0
+         I 0 1 1 4 0     answer 1 0
+         F 0             circle
+         F 1             committed 1",
+    );
+    assert_eq!(case.difference(), Some(7));
+    assert_eq!(case.broken(), None);
+}
+
+/// Demand 3 lets it through: those that are ready at once commute.
+#[test]
+fn desk_that_commits_by_number_is_noticed_by_comparison() {
+    let case = Case::of(
+        "S 1 1           ok
+         B 0             ok
+         B 1             ok
+         B 2             ok
+         I 0 0 1 1 0     answer 1 0
+         I 0 1 1 2 0     answer 1 0
+         I 1 0 1 3 0     answer 1 0
+         I 2 1 1 4 0     answer 1 0
+         F 2             finished
+         F 1             finished
+         F 0             committed 0 1 2",
+    );
+    assert_eq!(case.difference(), Some(10));
+    assert_eq!(case.broken(), None);
+}
