@@ -1,13 +1,13 @@
 -- What holds of scripts.
 use Prim.Native.Nat.{ℕ, _≤_}
-use mathlib.Core.Path.{_≡_, sym, ap, _∙_}
-use mathlib.Core.List.{List, [], _++_, flatten}
+use mathlib.Core.Path.{_≡_, refl, sym, ap, _∙_}
+use mathlib.Core.List.{List, [], _++_, append-nil, dropLast, flatten}
 use native.Mathlib.Omega.{arith}
 use lib.ListN.{length, take}
 use Rattle.script.specs.Script.{linesIn, endedLines, replies, asLines, zeros, script}
 use Rattle.script.specs.Sessions.{Session, Turn, opening, taken, closing, soFar, inBlocks}
 use Rattle.script.specs.Feeding.{Turned, Fed}
-use Rattle.script.specs.Laws.Reading.{closed-script, taken-ended, blocks-taken}
+use Rattle.script.specs.Laws.Reading.{all-lines, last-left, closed-script, blocks-taken}
 use Rattle.script.specs.Laws.Running.{front-put, fed-taken}
 use Rattle.script.specs.Laws.Lines.{replies-read, length-replies}
 
@@ -17,7 +17,7 @@ in-blocks blocks = ap (λ (t : Turn). t .output ++ closing (t .after) .output) (
 
 -- Each line is answered as soon as it has ended: before more is read, what was read is answered.
 pub at-once : (input : List ℕ) → taken opening input .output ≡ asLines (replies zeros (endedLines input))
-at-once = taken-ended
+at-once input = sym (append-nil (taken opening input .output)) ∙ all-lines (λ s. []) dropLast last-left (λ w line. refl) input
 
 pub blocks-at-once : (blocks : List (List ℕ)) → soFar opening blocks .output ≡ asLines (replies zeros (endedLines (flatten blocks)))
 blocks-at-once blocks = ap (λ (t : Turn). t .output) (blocks-taken opening blocks) ∙ at-once (flatten blocks)

@@ -14,7 +14,7 @@ use Rattle.protocol.specs.Call.{Call}
 use Rattle.text.specs.Text.{split}
 use Rattle.text.specs.Laws.Lines.{Without, begun, begun-empty, begun-longer, some-piece}
 use Rattle.lines.specs.Theorems.{front-enough}
-use Rattle.script.specs.Script.{withoutEmptyLast, endedLines, LineServed, serving, lineServed, replies, asLines, zeros, script}
+use Rattle.script.specs.Script.{withoutEmptyLast, LineServed, serving, lineServed, replies, asLines, zeros, script}
 use Rattle.script.specs.Sessions.{Session, session, opening, Turn, turn, printing, lineEnded, taken, closing, soFar}
 
 pub printing-after : (xs ys : List ℕ) (t : Turn) → printing xs (printing ys t) ≡ printing (xs ++ ys) t
@@ -56,7 +56,7 @@ line-kept line [] more = absurd (omega arith)
 line-kept [] (piece ∷ pieces) more = refl
 line-kept (b ∷ line) (piece ∷ pieces) more = refl
 
-last-left : (line : List ℕ) (pieces : List (List ℕ)) → 1 ≤ length pieces → dropLast (line ∷ pieces) ≡ line ∷ dropLast pieces
+pub last-left : (line : List ℕ) (pieces : List (List ℕ)) → 1 ≤ length pieces → dropLast (line ∷ pieces) ≡ line ∷ dropLast pieces
 last-left line [] more = absurd (omega arith)
 last-left line (piece ∷ pieces) more = refl
 
@@ -99,7 +99,7 @@ module _ (last : Session → List ℕ) (answered : List (List ℕ) → List (Lis
       ∙ ap (repliesTo w) (begun-longer line b (split (code "\n") bytes))))
 
   -- The same from the start.
-  all-lines : (input : List ℕ) → through last opening input ≡ repliesTo zeros (split (code "\n") input)
+  pub all-lines : (input : List ℕ) → through last opening input ≡ repliesTo zeros (split (code "\n") input)
   all-lines input = through-lines input zeros [] ∙ ap (repliesTo zeros) (begun-empty (split (code "\n") input))
 
 last-ended : (w line : List ℕ) → closing (session w (take 178 line)) .output ≡ asLines (replies w (withoutEmptyLast (line ∷ [])))
@@ -113,10 +113,6 @@ last-ended w (b ∷ line) =
 pub closed-script : (input : List ℕ) → through (λ s. closing s .output) opening input ≡ script input
 unfolding script
 closed-script = all-lines (λ s. closing s .output) withoutEmptyLast line-kept last-ended
-
--- Before more is read, the lines that have ended are answered.
-pub taken-ended : (input : List ℕ) → taken opening input .output ≡ asLines (replies zeros (endedLines input))
-taken-ended input = sym (append-nil (taken opening input .output)) ∙ all-lines (λ s. []) dropLast last-left (λ w line. refl) input
 
 -- ---- Blocks
 

@@ -7,7 +7,7 @@ use native.Mathlib.Omega.{arith}
 use lib.ListN.{length, take, drop, take-append-drop}
 use Rattle.text.specs.Fields.{Put}
 use Rattle.text.specs.Laws.Putting.{front}
-use Rattle.script.specs.Sessions.{Session, session, Turn, turn, printing, taken}
+use Rattle.script.specs.Sessions.{Session, session, turn, printing, taken}
 use Rattle.script.specs.Feeding.{chunk, Took, begun, Fed, waits, reads, feeds}
 use Rattle.script.specs.Laws.Reading.{taken-append}
 use Rattle.script.specs.declared.Progress.{Progress}

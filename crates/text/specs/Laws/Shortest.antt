@@ -3,7 +3,7 @@ use Prim.Native.Nat.{ℕ, zero, suc, _+_, _*_, _-_, _/_, _%_, _^_, _≤_, _<_}
 use mathlib.Core.Path.{_≡_, ap, _∙_, subst}
 use mathlib.Core.Bool.{true}
 use mathlib.Core.List.{List, [], _∷_}
-use native.Mathlib.Nat.{add-zero, zero-add, pow-succ', div-add-mod}
+use native.Mathlib.Nat.{zero-add, pow-succ', div-add-mod}
 use native.Mathlib.Omega.{arith}
 use borrow.Author.Tests.{leb-true, ltb-true, ltb-false}
 use borrow.Table.Steps.{cases}
@@ -11,7 +11,7 @@ use lib.Dec.{ltb, leb}
 use lib.ListN.{length, getD, List·getD-append}
 use Rattle.text.specs.Text.{isDigit, allDigits, valueAfter, decimal}
 use Rattle.text.specs.Laws.Tests.{left, right}
-use Rattle.text.specs.Laws.Decimals.{one-digit, more-digits, length-decimal}
+use Rattle.text.specs.Laws.Decimals.{one-digit, more-digits}
 use Rattle.text.specs.Laws.ReadBack.{decimal-says}
 
 -- k bounds how often a tenth is taken.
@@ -32,7 +32,7 @@ pub first-digit : (n : ℕ) → 1 ≤ n → n < 10_000_000_000 → 48 < getD (de
 first-digit n = first-within n n (omega arith)
 
 -- Digits behind digits that say less than 10 ^ m.
-value-small : (text : List ℕ) (n m : ℕ) → allDigits text ≡ true → n < 10 ^ m → valueAfter n text < 10 ^ (length text + m)
+pub value-small : (text : List ℕ) (n m : ℕ) → allDigits text ≡ true → n < 10 ^ m → valueAfter n text < 10 ^ (length text + m)
 value-small [] n m digits small = rw zero-add small
 value-small (b ∷ text) n m digits small =
     let high : b ≤ 57 = leb-true b 57 (right (leb 48 b) (leb b 57) (left (isDigit b) (allDigits text) digits)) in
@@ -40,7 +40,3 @@ value-small (b ∷ text) n m digits small =
     let more : length text + suc m ≡ suc (length text) + m = omega arith in
     subst (λ (k : ℕ). valueAfter n (b ∷ text) < 10 ^ k) more
     (value-small text (10 * n + (b - 48)) (suc m) (right (isDigit b) (allDigits text) digits) (omega arith))
-
-pub digits-many : (text : List ℕ) → 1 ≤ length text → allDigits text ≡ true → length (decimal (valueAfter 0 text)) ≤ length text
-digits-many text more digits =
-    length-decimal (length text) (valueAfter 0 text) more (rw add-zero at (value-small text 0 0 digits (omega arith)))
