@@ -1,0 +1,16 @@
+//! Links the proved library, which `rt staticlib capi` writes.
+
+use std::env;
+use std::path::Path;
+
+fn main() {
+    let package = env::var("CARGO_MANIFEST_DIR").expect("cargo names the package's folder");
+    let folder = Path::new(&package).join("../target/staticlib");
+    let library = folder.join("libcapi.a");
+    if !library.exists() {
+        panic!("{} is missing: run 'rt staticlib capi' first", library.display());
+    }
+    println!("cargo:rustc-link-search=native={}", folder.display());
+    println!("cargo:rustc-link-lib=static=capi");
+    println!("cargo:rerun-if-changed={}", library.display());
+}

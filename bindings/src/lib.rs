@@ -1,0 +1,99 @@
+//! The proved lending desk for programs in Rust.
+//!
+//! A book is a lent slice of [`WORDS`] words; [`set_up`] writes an empty one over any contents. Any slices and any numbers may be handed over: a
+//! call that can't be served says why and changes nothing. What each call does is a definition, and that it does so is proved of the library
+//! beneath. This package only hands slices over and replies back; a slice is never null, so no null pointer gets there.
+
+pub mod raw;
+
+/// Words of a book.
+pub const WORDS: usize = 3937;
+
+/// How many objects a book has; set up takes a kind for each: 0 none, 1 stack, 2 set, 3 table.
+pub const OBJECTS: usize = 16;
+
+/// The least length of the list lent to finish and cancel.
+pub const LIST: usize = 64;
+
+/// Why a call is refused, by number; `include/lending_desk.h` has the reasons.
+#[derive(Clone, Copy, Debug, PartialEq, Eq, PartialOrd, Ord, Hash)]
+pub struct Refusal(pub u32);
+
+/// What operate replies.
+#[derive(Clone, Copy, Debug, PartialEq, Eq)]
+pub enum Operated {
+    /// Nothing was changed: an entry of this handout forces a wait.
+    Wait { owner: u32 },
+    Answered { code: u32, value: u32 },
+}
+
+/// What finish and cancel reply. The counts are of the handouts that committed, at the front of the list in order of commitment.
+#[derive(Clone, Copy, Debug, PartialEq, Eq)]
+pub enum Ended {
+    Finished,
+    Committed { count: usize },
+    Circle { count: usize },
+    Cancelled { count: usize },
+}
+
+/// Writes an empty book over any contents.
+pub fn set_up(book: &mut [u32], kinds: &[u8]) -> Result<(), Refusal> {
+    accepted(raw::set_up(book, kinds).refusal)
+}
+
+/// Opens a handout.
+pub fn begin(book: &mut [u32], handout: u32) -> Result<(), Refusal> {
+    accepted(raw::begin(book, handout).refusal)
+}
+
+/// Answers an operation of an open handout and enters it in the log, unless it must wait.
+pub fn operate(
+    book: &mut [u32],
+    handout: u32,
+    object: u32,
+    operation: u32,
+    key: u32,
+    value: u32,
+) -> Result<Operated, Refusal> {
+    let reply = raw::operate(book, handout, object, operation, key, value);
+    accepted(reply.refusal)?;
+    Ok(match reply.code {
+        0 => Operated::Wait { owner: reply.owner },
+        _ => Operated::Answered { code: reply.answer, value: reply.value },
+    })
+}
+
+/// Finishes an open handout: committed, finished, or cancelled for a circle.
+pub fn finish(book: &mut [u32], handout: u32, list: &mut [u8]) -> Result<Ended, Refusal> {
+    ended(raw::finish(book, handout, list))
+}
+
+/// Cancels an open handout.
+pub fn cancel(book: &mut [u32], handout: u32, list: &mut [u8]) -> Result<Ended, Refusal> {
+    ended(raw::cancel(book, handout, list))
+}
+
+/// The object's rows, two words each: that part of the book itself.
+pub fn contents(book: &[u32], object: u32) -> Result<&[u32], Refusal> {
+    let part = raw::contents(book, object);
+    accepted(part.refusal)?;
+    Ok(&book[part.start as usize..][..2 * part.rows as usize])
+}
+
+fn accepted(refusal: u32) -> Result<(), Refusal> {
+    match refusal {
+        0 => Ok(()),
+        number => Err(Refusal(number)),
+    }
+}
+
+fn ended(reply: raw::Ended) -> Result<Ended, Refusal> {
+    accepted(reply.refusal)?;
+    let count = reply.count as usize;
+    Ok(match reply.code {
+        2 => Ended::Finished,
+        3 => Ended::Committed { count },
+        4 => Ended::Circle { count },
+        _ => Ended::Cancelled { count },
+    })
+}

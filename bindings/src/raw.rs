@@ -1,0 +1,84 @@
+//! The proved library's functions and the structs that they return, as `include/lending_desk.h` declares them.
+
+/// What set up and begin reply.
+#[repr(C)]
+#[derive(Clone, Copy, Debug, PartialEq, Eq)]
+pub struct Accepted {
+    pub refusal: u32,
+}
+
+/// What operate replies.
+#[repr(C)]
+#[derive(Clone, Copy, Debug, PartialEq, Eq)]
+pub struct Operated {
+    pub refusal: u32,
+    pub code: u32,
+    pub owner: u32,
+    pub answer: u32,
+    pub value: u32,
+}
+
+/// What finish and cancel reply.
+#[repr(C)]
+#[derive(Clone, Copy, Debug, PartialEq, Eq)]
+pub struct Ended {
+    pub refusal: u32,
+    pub code: u32,
+    pub count: u32,
+}
+
+/// Where the part that contents hands back starts, and how many rows it has.
+#[repr(C)]
+#[derive(Clone, Copy, Debug, PartialEq, Eq)]
+pub struct Part {
+    pub refusal: u32,
+    pub start: u32,
+    pub rows: u32,
+}
+
+mod linked {
+    use super::{Accepted, Ended, Operated, Part};
+
+    extern "C" {
+        pub fn lending_desk_set_up(book: *mut u32, words: usize, kinds: *const u8, count: usize) -> Accepted;
+        pub fn lending_desk_begin(book: *mut u32, words: usize, handout: u32) -> Accepted;
+        pub fn lending_desk_operate(
+            book: *mut u32,
+            words: usize,
+            handout: u32,
+            object: u32,
+            operation: u32,
+            key: u32,
+            value: u32,
+        ) -> Operated;
+        pub fn lending_desk_finish(book: *mut u32, words: usize, handout: u32, list: *mut u8, length: usize) -> Ended;
+        pub fn lending_desk_cancel(book: *mut u32, words: usize, handout: u32, list: *mut u8, length: usize) -> Ended;
+        pub fn lending_desk_contents(book: *const u32, words: usize, object: u32) -> Part;
+    }
+}
+
+// The library asks nothing of its arguments but that a slice's words are there to be read and written, which a slice says by its type.
+
+pub fn set_up(book: &mut [u32], kinds: &[u8]) -> Accepted {
+    unsafe { linked::lending_desk_set_up(book.as_mut_ptr(), book.len(), kinds.as_ptr(), kinds.len()) }
+}
+
+pub fn begin(book: &mut [u32], handout: u32) -> Accepted {
+    unsafe { linked::lending_desk_begin(book.as_mut_ptr(), book.len(), handout) }
+}
+
+pub fn operate(book: &mut [u32], handout: u32, object: u32, operation: u32, key: u32, value: u32) -> Operated {
+    unsafe { linked::lending_desk_operate(book.as_mut_ptr(), book.len(), handout, object, operation, key, value) }
+}
+
+pub fn finish(book: &mut [u32], handout: u32, list: &mut [u8]) -> Ended {
+    unsafe { linked::lending_desk_finish(book.as_mut_ptr(), book.len(), handout, list.as_mut_ptr(), list.len()) }
+}
+
+pub fn cancel(book: &mut [u32], handout: u32, list: &mut [u8]) -> Ended {
+    unsafe { linked::lending_desk_cancel(book.as_mut_ptr(), book.len(), handout, list.as_mut_ptr(), list.len()) }
+}
+
+pub fn contents(book: &[u32], object: u32) -> Part {
+    unsafe { linked::lending_desk_contents(book.as_ptr(), book.len(), object) }
+}

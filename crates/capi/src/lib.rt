@@ -1,0 +1,170 @@
+// The calls for programs in other languages, by C's rules of calling: a slice is a pointer and a length. None asks anything of its arguments.
+use scheduler::Response;
+ghost use mathlib.Core.Path.{_≡_};
+ghost use mathlib.Core.List.{[]};
+ghost use Prim.Native.Nat.{_*_};
+ghost use lib.ListN.{take, drop};
+ghost use Rattle.store.specs.Layout.{base};
+ghost use Rattle.store.specs.Decisions.{whetherSound};
+ghost use Rattle.protocol.specs.Calls as calls;
+ghost use Rattle.scheduler.specs.Responses.{responseOf};
+ghost use Rattle.capi.specs.Exported.{numbersOf, accepted, operated, ended, part, exported, written};
+
+// The numbers of a reply; `Exported` says which reply has which.
+struct Numbers {
+    refusal: u32,
+    code: u32,
+    owner: u32,
+    answer: u32,
+    value: u32,
+    count: u32,
+    rows: u32,
+}
+
+// What set up and begin reply: the reason for saying no, or 0.
+#[repr(C)]
+pub struct Accepted {
+    pub refusal: u32,
+}
+
+// What operate replies: 0 wait, 1 answered.
+#[repr(C)]
+pub struct Operated {
+    pub refusal: u32,
+    pub code: u32,
+    pub owner: u32,
+    pub answer: u32,
+    pub value: u32,
+}
+
+// What finish and cancel reply: 2 finished, 3 committed, 4 circle, 5 cancelled, and how many the list names.
+#[repr(C)]
+pub struct Ended {
+    pub refusal: u32,
+    pub code: u32,
+    pub count: u32,
+}
+
+// The part of the book that contents hands back: the word that it starts at, and its rows of two words.
+#[repr(C)]
+pub struct Part {
+    pub refusal: u32,
+    pub start: u32,
+    pub rows: u32,
+}
+
+fn read(response: Response) -> Numbers
+    ensures { λ r. ⌜ r ≡ numbersOf (responseOf response) ⌝ }
+{
+    let mut n = Numbers {
+        refusal: 0,
+        code: 0,
+        owner: 0,
+        answer: 0,
+        value: 0,
+        count: 0,
+        rows: 0,
+    };
+    match response {
+        Response::Ok => {}
+        Response::Wait(owner) => n.owner = owner,
+        Response::Answered(code, value) => {
+            n.code = 1;
+            n.answer = code;
+            n.value = value;
+        }
+        Response::Finished => n.code = 2,
+        Response::Committed(count) => {
+            n.code = 3;
+            n.count = count;
+        }
+        Response::Circle(count) => {
+            n.code = 4;
+            n.count = count;
+        }
+        Response::Cancelled(count) => {
+            n.code = 5;
+            n.count = count;
+        }
+        Response::Counted(rows) => n.rows = rows,
+        Response::Refused(reason) => n.refusal = reason,
+    }
+    n
+}
+
+#[no_mangle]
+pub extern "C" fn lending_desk_set_up(book: &mut [u32], kinds: &[u8]) -> Accepted
+    ensures { λ r. ⌜ exported (now (book .exit)) [] r ≡ written accepted (calls.setUp base (now (book .entry)) (now (kinds .entry))) ⌝ }
+{
+    let n = read(scheduler::set_up(book, kinds));
+    Accepted { refusal: n.refusal }
+}
+
+#[no_mangle]
+pub extern "C" fn lending_desk_begin(book: &mut [u32], transaction: u32) -> Accepted
+    ensures { λ r. ⌜ exported (now (book .exit)) [] r ≡ written accepted (calls.begin base whetherSound (now (book .entry)) transaction) ⌝ }
+{
+    let n = read(scheduler::begin(book, transaction));
+    Accepted { refusal: n.refusal }
+}
+
+#[no_mangle]
+pub extern "C" fn lending_desk_operate(
+    book: &mut [u32],
+    transaction: u32,
+    object: u32,
+    operation: u32,
+    key: u32,
+    value: u32,
+) -> Operated
+    ensures { λ r. ⌜ exported (now (book .exit)) [] r ≡ written operated (calls.operate base whetherSound (now (book .entry)) transaction object operation key value) ⌝ }
+{
+    let n = read(scheduler::operate(book, transaction, object, operation, key, value));
+    Operated {
+        refusal: n.refusal,
+        code: n.code,
+        owner: n.owner,
+        answer: n.answer,
+        value: n.value,
+    }
+}
+
+#[no_mangle]
+pub extern "C" fn lending_desk_finish(book: &mut [u32], transaction: u32, list: &mut [u8]) -> Ended
+    ensures { λ r. ⌜ exported (now (book .exit)) (now (list .exit)) r ≡ written ended (calls.finish base whetherSound (now (book .entry)) transaction (now (list .entry))) ⌝ }
+{
+    let n = read(scheduler::finish(book, transaction, list));
+    Ended {
+        refusal: n.refusal,
+        code: n.code,
+        count: n.count,
+    }
+}
+
+#[no_mangle]
+pub extern "C" fn lending_desk_cancel(book: &mut [u32], transaction: u32, list: &mut [u8]) -> Ended
+    ensures { λ r. ⌜ exported (now (book .exit)) (now (list .exit)) r ≡ written ended (calls.cancel base whetherSound (now (book .entry)) transaction (now (list .entry))) ⌝ }
+{
+    let n = read(scheduler::cancel(book, transaction, list));
+    Ended {
+        refusal: n.refusal,
+        code: n.code,
+        count: n.count,
+    }
+}
+
+#[no_mangle]
+pub extern "C" fn lending_desk_contents(book: &[u32], object: u32) -> Part
+    ensures { λ r. ⌜ (r ≡ part object (numbersOf (calls.contents base whetherSound (now (book .entry)) object .outcome .reply))) × (take (2 * (r .rows)) (drop (r .start) (now (book .entry))) ≡ calls.contents base whetherSound (now (book .entry)) object .outcome .rows) ⌝ }
+{
+    let n = read(scheduler::contents_count(book, object));
+    let mut start: u32 = 0;
+    if n.refusal == 0 {
+        start = 67 + 130 * object;
+    }
+    Part {
+        refusal: n.refusal,
+        start: start,
+        rows: n.rows,
+    }
+}

@@ -1,0 +1,127 @@
+/* The proved lending desk, for programs that link target/staticlib/libcapi.a (written by `rt staticlib capi`).
+ *
+ * A book is LENDING_DESK_WORDS words that the program lends to each call; nothing else is kept. Any numbers, any lengths and any contents may be
+ * handed over: a call that can't be served says why in `refusal` and changes neither book nor list. What each call replies and every word that it
+ * leaves is fixed by a definition, and proved.
+ *
+ * What no call can test, and a program must see to: a pointer is not null, not even with length 0; what it points to is of at least the length
+ * given, aligned for its type, and lent to one call at a time; book, kinds and list don't overlap.
+ */
+#ifndef LENDING_DESK_H
+#define LENDING_DESK_H
+
+#include <stddef.h>
+#include <stdint.h>
+
+#ifdef __cplusplus
+extern "C" {
+#endif
+
+enum {
+    LENDING_DESK_WORDS = 3937, /* words of a book */
+    LENDING_DESK_OBJECTS = 16, /* objects 0 to 15, each of a kind */
+    LENDING_DESK_LIST = 64     /* bytes that the list lent to finish and cancel has at least */
+};
+
+/* Kinds of objects, for set up. */
+enum {
+    LENDING_DESK_NONE = 0,
+    LENDING_DESK_STACK = 1,
+    LENDING_DESK_SET = 2,
+    LENDING_DESK_TABLE = 3
+};
+
+/* Operations. The answer is a code and a value. */
+enum {
+    LENDING_DESK_PUSH = 1,          /* item: 1 0 */
+    LENDING_DESK_POP = 2,           /* 1 and the item removed, or 0 0 if empty */
+    LENDING_DESK_TOP = 3,           /* the same without removing */
+    LENDING_DESK_SET_INSERT = 4,    /* key: 1 0 */
+    LENDING_DESK_SET_DELETE = 5,    /* key: 1 0 if it was there, else 0 0 */
+    LENDING_DESK_SET_MEMBER = 6,    /* key: 1 0 if it is there, else 0 0 */
+    LENDING_DESK_TABLE_INSERT = 7,  /* key, value: 1 0 if added, 0 0 and no change if the key was there */
+    LENDING_DESK_TABLE_DELETE = 8,  /* key: 1 0 if it was there, else 0 0 */
+    LENDING_DESK_TABLE_LOOKUP = 9,  /* key: 1 and the value, or 0 0 */
+    LENDING_DESK_TABLE_SIZE = 10,   /* 1 and the number of rows */
+    LENDING_DESK_TABLE_MODIFY = 11  /* key, value: 1 0 if replaced, 0 0 if absent */
+};
+
+/* Reply codes. They mean something only where `refusal` is 0. */
+enum {
+    LENDING_DESK_WAIT = 0,      /* an entry of the handout `owner` forces a wait; nothing was changed */
+    LENDING_DESK_ANSWERED = 1,  /* `answer` and `value` are the answer */
+    LENDING_DESK_FINISHED = 2,  /* it depends on others, and commits when they have ended */
+    LENDING_DESK_COMMITTED = 3, /* it committed, the first in the list */
+    LENDING_DESK_CIRCLE = 4,    /* it lay on a circle of dependency, and was cancelled */
+    LENDING_DESK_CANCELLED = 5
+};
+
+/* Refusals: the first that applies, in the order of their numbers. */
+enum {
+    LENDING_DESK_ACCEPTED = 0,
+    LENDING_DESK_BOOK_LENGTH = 1,     /* the book isn't LENDING_DESK_WORDS words long */
+    LENDING_DESK_LIST_LENGTH = 2,     /* the list is shorter than LENDING_DESK_LIST */
+    LENDING_DESK_BAD_KINDS = 3,       /* the kinds aren't LENDING_DESK_OBJECTS bytes, or one is above 3 */
+    LENDING_DESK_UNSOUND = 4,         /* the book isn't sound: no list of calls leaves one so */
+    LENDING_DESK_HANDOUT_NUMBER = 5,  /* the handout's number is above 63 */
+    LENDING_DESK_HANDOUT_LIVE = 6,    /* begin names a handout that is open or finished */
+    LENDING_DESK_NOT_OPEN = 7,        /* the handout isn't open */
+    LENDING_DESK_NO_OBJECT = 8,       /* the object is above 15 or of no kind */
+    LENDING_DESK_WRONG_OPERATION = 9, /* the operation isn't one of the object's kind */
+    LENDING_DESK_LOG_FULL = 10,       /* the log holds 256 entries */
+    LENDING_DESK_NO_ROOM = 11         /* rows plus logged pushes and inserts of the object are at 64 */
+};
+
+/* A field that a reply has no number for is 0. */
+
+typedef struct {
+    uint32_t refusal;
+} lending_desk_accepted;
+
+typedef struct {
+    uint32_t refusal;
+    uint32_t code;   /* wait or answered */
+    uint32_t owner;  /* of a wait */
+    uint32_t answer; /* the answer's code */
+    uint32_t value;  /* the answer's value */
+} lending_desk_operated;
+
+typedef struct {
+    uint32_t refusal;
+    uint32_t code;  /* finished, committed, circle or cancelled */
+    uint32_t count; /* how many handouts committed: they stand at the front of the list */
+} lending_desk_ended;
+
+typedef struct {
+    uint32_t refusal;
+    uint32_t start; /* the word of the book at which the object's rows start */
+    uint32_t rows;  /* how many there are, two words each */
+} lending_desk_part;
+
+/* Writes an empty book of these kinds over any contents. Refusals: 1, 3. */
+lending_desk_accepted lending_desk_set_up(uint32_t *book, size_t words, const uint8_t *kinds, size_t count);
+
+/* Opens a handout, 0 to 63. Refusals: 1, 4, 5, 6. */
+lending_desk_accepted lending_desk_begin(uint32_t *book, size_t words, uint32_t handout);
+
+/* Answers an operation of an open handout and enters it in the log; or says whom it waits for, and changes nothing. An argument that the operation
+ * doesn't use may be any number. Refusals: 1, 4, 5, 7, 8, 9, 10, 11. */
+lending_desk_operated lending_desk_operate(uint32_t *book, size_t words, uint32_t handout, uint32_t object, uint32_t operation, uint32_t key,
+                                           uint32_t value);
+
+/* Finishes an open handout. Those that commit by it go to the front of the list in order of commitment, itself first where it does; the rest of the
+ * list keeps its bytes. Refusals: 1, 2, 4, 5, 7. */
+lending_desk_ended lending_desk_finish(uint32_t *book, size_t words, uint32_t handout, uint8_t *list, size_t length);
+
+/* Cancels an open handout: what it did is as if it had not been. Those that commit by it go to the list, as of finish. Refusals: 1, 2, 4, 5, 7. */
+lending_desk_ended lending_desk_cancel(uint32_t *book, size_t words, uint32_t handout, uint8_t *list, size_t length);
+
+/* Where the committed rows of an object stand in the book: a stack's are item and 0, bottom first; a set's key and 0, and a table's key and value,
+ * by ascending keys. Refusals: 1, 4, 8. */
+lending_desk_part lending_desk_contents(const uint32_t *book, size_t words, uint32_t object);
+
+#ifdef __cplusplus
+}
+#endif
+
+#endif
