@@ -66,13 +66,13 @@ module _ (w : List ℕ) (o : ℕ) where
         → record { refusal = n .refusal; start = start; rows = n .rows } ≡ part o (numbersOf (handed .outcome .reply))
     starting start e = ap (λ (at : ℕ). record { refusal = n .refusal; start = at; rows = n .rows }) e ∙ ap (part o) numbered
 
-    pub accepted-part : n .refusal ≡ 0 → Handed (record { refusal = n .refusal; start = 67 + 130 * o; rows = n .rows })
-    accepted-part none =
+    pub accepted-part : n .refusal ≡ 0 → (start : ℕ) → start ≡ objectStart o + 2
+        → Handed (record { refusal = n .refusal; start = start; rows = n .rows })
+    accepted-part none start at =
         let left = contents-served w o reason refl (no-reason none) in
         let counted : n .rows ≡ word w (objectStart o + 1) = number (λ m. m .rows) left ∙ rows-counted w o (within none) in
-        let size : 2 * (n .rows) ≡ objectStart o + 2 + 2 * (n .rows) - (objectStart o + 2) = omega arith in
-        let at : 67 + 130 * o ≡ objectStart o + 2 = omega arith in (
-          starting (67 + 130 * o) (at ∙ sym (ap (λ (b : Bool). cond b (objectStart o + 2) 0) (eq-eqb (n .refusal) 0 none))),
+        let size : 2 * (n .rows) ≡ objectStart o + 2 + 2 * (n .rows) - (objectStart o + 2) = omega arith in (
+          starting start (at ∙ sym (ap (λ (b : Bool). cond b (objectStart o + 2) 0) (eq-eqb (n .refusal) 0 none))),
           ap₂ (λ (k : ℕ) (start : ℕ). take k (drop start w)) size at
               ∙ rows-part w o (within none) (is-accepted none .sound .packed) (n .rows) counted ∙ ap (λ (s : Served). s .outcome .rows) left,
         )

@@ -160,7 +160,7 @@ pub extern "C" fn lending_desk_contents(book: &[u32], object: u32) -> Part
     let n = read(scheduler::contents_count(book, object));
     let mut start: u32 = 0;
     if n.refusal == 0 {
-        start = 67 + 130 * object;
+        start = (layout::FIRST_OBJECT + layout::OBJECT * layout::wide(object) + 2) as u32;
     }
     Part {
         refusal: n.refusal,
