@@ -42,7 +42,8 @@ fn same_reply(a: Reply, b: Reply) -> bool
     a.code == b.code && a.value == b.value
 }
 
-// Whether an object's rows with its pushes and inserts are within the room, and its entries, replayed in order, get their answers.
+// Whether an object's rows with its pushes and inserts are within the room, and its entries, replayed in order, get their answers. Every call asks
+// this of the whole log, so the copy is changed in place.
 fn object_answered(book: &[u32], object: usize, first: usize, links: &[usize; 256]) -> bool
     requires { ⌜ Packed base (now book) × (object < 16) × NextEntry (now book) object 0 first × Links (now book) 0 (now links) ⌝ }
     ensures { λ r. ⌜ (r ≡ true) ↔ ObjectAnswered (now (book .entry)) object ⌝ }
@@ -67,9 +68,7 @@ fn object_answered(book: &[u32], object: usize, first: usize, links: &[usize; 25
             return false;
         }
         let next = replay::next_count(&rows, count, at, operation);
-        if !replay::keeps_rows(&rows, count, at, operation) {
-            rows = replay::next_rows(rows, count, at, operation);
-        }
+        replay::change(&mut rows, count, at, operation);
         count = next;
         i = links[i];
     }

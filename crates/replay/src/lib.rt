@@ -3,10 +3,10 @@ use operations::Operation;
 use operations::Reply;
 ghost use mathlib.Core.Path.{_≡_};
 ghost use mathlib.Core.Bool.{true};
-ghost use mathlib.Core.List.{map};
+ghost use mathlib.Core.List.{[], _∷_, _++_, map};
 ghost use Prim.Native.Nat.{_+_, _-_, _<_, _≤_};
 ghost use lib.ListN.{length, take};
-ghost use Rattle.operations.specs.Operations.{flag as Flag, valued, topItem, found, present as Present, inserted as Inserted, deleted as Deleted, modified as Modified};
+ghost use Rattle.operations.specs.Operations.{row, flag as Flag, valued, topItem, found, present as Present, inserted as Inserted, deleted as Deleted, modified as Modified};
 ghost use Rattle.operations.specs.Stored.{asReply};
 ghost use Rattle.replay.specs.Replay.{nextOf, replyOf, rowOf, rowsOf, Holds, Placed, positionOf, putAt, removedAt};
 
@@ -78,6 +78,16 @@ fn close_at(rows: &mut [[u32; 2]; 64], count: usize, at: usize)
     }
 }
 
+fn push(rows: &mut [[u32; 2]; 64], count: usize, item: u32)
+    requires { ⌜ (count ≤ 64) × (length (rowsOf (now rows) count ++ (row item 0 ∷ [])) ≤ 64) ⌝ }
+    ensures { λ r. ⌜ Holds (now (rows .exit)) (rowsOf (now (rows .entry)) count ++ (row item 0 ∷ [])) ⌝ }
+{
+    let whole = &rows[..];
+    if count < whole.len() {
+        rows[count] = [item, 0];
+    }
+}
+
 fn insert(rows: &mut [[u32; 2]; 64], count: usize, at: usize, key: u32, value: u32)
     requires { ⌜ (count ≤ 64) × (length (Inserted key value (rowsOf (now rows) count)) ≤ 64) × (at ≡ positionOf key (rowsOf (now rows) count)) ⌝ }
     ensures { λ r. ⌜ Holds (now (rows .exit)) (Inserted key value (rowsOf (now (rows .entry)) count)) ⌝ }
@@ -108,7 +118,24 @@ fn modify(rows: &mut [[u32; 2]; 64], count: usize, at: usize, key: u32, value: u
     }
 }
 
-// The rows after the operation, which the copy has room for. Pairs past the new count are left free: a pop only lowers the count.
+// Gives the copy, which has room for them, the rows after the operation. Pairs past the new count are left free: a pop only lowers the count.
+pub fn change(rows: &mut [[u32; 2]; 64], count: usize, at: usize, operation: Operation)
+    requires { ⌜ (count ≤ 64) × (length (nextOf operation (rowsOf (now rows) count)) ≤ 64) × Placed operation (rowsOf (now rows) count) at ⌝ }
+    ensures { λ r. ⌜ Holds (now (rows .exit)) (nextOf operation (rowsOf (now (rows .entry)) count)) ⌝ }
+{
+    let number = operation.number;
+    let key = operation.key;
+    match number {
+        1 => push(rows, count, key),
+        4 => insert(rows, count, at, key, 0),
+        5 | 8 => delete(rows, count, at, key),
+        7 => insert(rows, count, at, key, operation.value),
+        11 => modify(rows, count, at, key, operation.value),
+        _ => {}
+    }
+}
+
+// The same of a copy that is handed through by value.
 pub fn next_rows(
     rows: [[u32; 2]; 64],
     count: usize,
@@ -119,16 +146,7 @@ pub fn next_rows(
     ensures { λ r. ⌜ rowsOf r (length (nextOf operation (rowsOf rows count))) ≡ nextOf operation (rowsOf rows count) ⌝ }
 {
     let mut rows = rows;
-    let number = operation.number;
-    let key = operation.key;
-    match number {
-        1 => rows[count] = [key, 0],
-        4 => insert(&mut rows, count, at, key, 0),
-        5 | 8 => delete(&mut rows, count, at, key),
-        7 => insert(&mut rows, count, at, key, operation.value),
-        11 => modify(&mut rows, count, at, key, operation.value),
-        _ => {}
-    }
+    change(&mut rows, count, at, operation);
     rows
 }
 

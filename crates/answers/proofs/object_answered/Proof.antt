@@ -1,12 +1,10 @@
 -- `answers::object_answered`: what is left to replay is answered exactly where the whole is.
 use Prim.Native.Nat.{_+_, _-_, _≤_, _<_}
 use mathlib.Core.Path.{_≡_, _∙_}
-use mathlib.Core.Logic.{⊎-elim}
 use native.Mathlib.Omega.{arith}
 use borrow.Author.Needs.{needs}
-use borrow.Author.Tests.{not-false}
 use lib.ListN.{length, getD}
-use Rattle.replay.specs.Replay.{nextOf, rowsOf, Holds, Placed}
+use Rattle.replay.specs.Replay.{nextOf, rowsOf, Placed}
 use Rattle.store.specs.Layout.{word, Packed, base}
 use Rattle.answers.specs.Laws.Entries.{needed-few}
 use Rattle.answers.specs.Answers.{NextEntry}
@@ -106,27 +104,14 @@ placed c = c .before .before .before .before .before .before
 next-count-requires : tie.Need-next-count-requires Inv-loop μ-loop
 next-count-requires c κs = let r = ready (placed c) in (r .0, r .2)
 
-keeps-rows-requires : tie.Need-keeps-rows-requires Inv-loop μ-loop
-keeps-rows-requires c κs = let r = ready (placed (c .before .before)) in (r .0, r .2)
+change-requires : tie.Need-change-requires Inv-loop μ-loop
+change-requires c κs = ready (placed (c .before .before))
 
-next-rows-requires : tie.Need-next-rows-requires Inv-loop μ-loop
-next-rows-requires c κs = ready (placed (c .before .before .before .before))
-
--- Whether it was changed or not, the copy has the rows after the operation.
-replayed-rows : (c : tie.Joined4 Inv-loop μ-loop) → let at-place = placed (c .before .before .before .before) in
-    let at-loop = at-place .before .before .before .before .before .before in
-    Holds (c .if4 .rows) (nextOf (at-place .before .before .before .before .entry-operation .result) (rowsOf (at-loop .loop .rows) (at-loop .loop .count)))
-replayed-rows c =
-    ⊎-elim
-    (λ w. rw (w .2) (w .1 .ensures))
-    (λ w. rw (w .1) (c .before .keeps-rows .ensures (not-false _ (w .0 .left))))
-    (c .if4 .came)
+abbrev in-loop : tie.After-change Inv-loop μ-loop → tie.In-loop Inv-loop μ-loop
+in-loop c = placed (c .before .before .before) .before .before .before .before .before
 
 -- The link leads to the object's next entry.
-abbrev in-loop : tie.Joined4 Inv-loop μ-loop → tie.In-loop Inv-loop μ-loop
-in-loop c = placed (c .before .before .before .before) .before .before .before .before .before
-
-next : (c : tie.Joined4 Inv-loop μ-loop) → let at-loop = in-loop c .before in
+next : (c : tie.After-change Inv-loop μ-loop) → let at-loop = in-loop c .before in
     let args = begin at-loop .args in
     NextEntry (args .book .now) (args .object) (at-loop .loop .i + 1) (getD (args .links .now) (at-loop .loop .i) 0)
 next c =
@@ -146,14 +131,15 @@ loop-less c = omega (arith, next (c .before) .after, in-loop (c .before) .loop-t
 
 loop-again : tie.Need-loop-again Inv-loop μ-loop
 loop-again c =
-    let counted = c .before .before .before .before in
+    let changed = c .before in
+    let counted = changed .before .before in
     let tested = counted .before .before in
     let answer = tested .before .before in
     let reply = answer .before in
     let room = placed (counted .before) .before .before in
     turn (reached (room .before)) (reply .reply .result) (answer .entry-answer .result) (tested .before .same-reply .result) (reply .reply .ensures)
-    (answer .entry-answer .ensures) (tested .before .same-reply .ensures) (tested .if3 .left) (room .if2 .left) (c .before .if4 .rows)
-    (counted .next-count .result) _ (replayed-rows (c .before)) (counted .next-count .ensures) (next (c .before))
+    (answer .entry-answer .ensures) (tested .before .same-reply .ensures) (tested .if3 .left) (room .if2 .left) (changed .change .last .0)
+    (counted .next-count .result) _ (changed .change .ensures) (counted .next-count .ensures) (next changed)
 
 returns-4 : tie.Need-returns-4 Inv-loop μ-loop
 returns-4 c = replayed (c .before .loop .inv) (omega (arith, c .loop-test .left, c .before .before .before .before .before .entry-count .ensures))
@@ -179,8 +165,7 @@ object-answered-spec =
     (λ c κs. search needs)
     returns-3
     next-count-requires
-    keeps-rows-requires
-    next-rows-requires
+    change-requires
     mul-i
     element-copy-out-i
     loop-less

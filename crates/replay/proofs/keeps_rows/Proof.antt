@@ -41,7 +41,7 @@ returns-3 c e =
 returns-4 : tie.Need-returns-4
 returns-4 c e =
     let rest = c .match .rest in
-    unchanged-holds (c .before .before .before .args .operation) _ _ (fits (c .before .before)) (rest .0 .0 .1) (λ q. rest .0 .1 (inl q))
+    unchanged-holds (c .before .before .before .args .operation) (c .before .before .before .args .rows .now) (c .before .before .before .args .count) (rest .0 .0 .1) (λ q. rest .0 .1 (inl q))
     (⊎-elim (λ q. rest .1 (inl q)) (λ q. rest .1 (inr (inl q)))) (λ q. rest .0 .1 (inr q)) (λ q. rest .1 (inr (inr q)))
 
 pub keeps-rows-spec : {M : Type 1} → statement M

@@ -5,12 +5,12 @@ use mathlib.Core.Bool.{true, false}
 use mathlib.Core.List.{List, [], _∷_, _++_, map}
 use native.Mathlib.Omega.{arith}
 use lib.Dec.{eqb}
-use lib.ListN.{length, getD, take, set, length-set, length-map, List·getD-map}
+use lib.ListN.{length, getD, take, set, length-set, length-map, length-take, List·getD-map}
 use lib.Seq.{length-take-le, take-take, take-set-lt}
 use Rattle.operations.specs.Laws.Cases.{map-set}
 use Rattle.operations.specs.Operations.{found, present, inserted, deleted, modified, topItem, valued, replied}
 use Rattle.replay.specs.Replay.{rowOf, rowsOf, Holds, positionOf, putAt, removedAt}
-use Rattle.replay.specs.Laws.Lists.{put-last, map-take, map-put, map-removed, length-put, length-removed, getD-default, opened-end}
+use Rattle.replay.specs.Laws.Lists.{put-last, take-taken, map-take, map-put, map-removed, length-put, length-removed, getD-default, opened-end}
 use Rattle.replay.specs.Laws.Positions.{rowAt, there, absent, tested, untested, inserted-more}
 
 -- ---- Reading
@@ -54,6 +54,16 @@ top-some (p ∷ ps) h =
 held : (copy pairs : List (List ℕ)) (n : ℕ) → take n copy ≡ pairs → length pairs ≡ n → Holds copy (map rowOf pairs)
 held copy pairs n e l = ap (λ m. map rowOf (take m copy)) (length-map pairs rowOf ∙ l) ∙ ap (map rowOf) e
 
+-- A copy that is left as it is, whatever its length.
+pub kept : (rows : List (List ℕ)) (count : ℕ) → Holds rows (rowsOf rows count)
+kept rows count = ap (λ m. map rowOf (take m rows)) (length-map (take count rows) rowOf) ∙ ap (map rowOf) (take-taken count rows)
+
+pub popped : (rows : List (List ℕ)) (count : ℕ) → Holds rows (take (length (rowsOf rows count) - 1) (rowsOf rows count))
+popped rows count =
+    let left : ℕ = length (rowsOf rows count) - 1 in
+    let fewer : left ≤ count = omega (arith, length-map (take count rows) rowOf, length-take count rows) in
+    rw (← map-take rowOf left (take count rows), take-take left count rows fewer) (kept rows left)
+
 module _ (rows : List (List ℕ)) (count : ℕ) (fits : count ≤ length rows) where
   taken : length (take count rows) ≡ count
   taken = length-take-le count rows fits
@@ -63,14 +73,6 @@ module _ (rows : List (List ℕ)) (count : ℕ) (fits : count ≤ length rows) w
 
   pub nonempty : (k : ℕ) → present k (rowsOf rows count) ≡ true → 1 ≤ count
   nonempty k h = omega (arith, count-rows, there k (rowsOf rows count) h .within)
-
-  pub kept : Holds rows (rowsOf rows count)
-  kept = held rows (take count rows) count refl taken
-
-  pub popped : Holds rows (take (length (rowsOf rows count) - 1) (rowsOf rows count))
-  popped =
-      rw (count-rows, ← map-take rowOf (count - 1) (take count rows), take-take (count - 1) count rows (omega arith))
-      (held rows (take (count - 1) rows) (count - 1) refl (length-take-le (count - 1) rows (omega arith)))
 
   put : (copy : List (List ℕ)) (at : ℕ) (pair : List ℕ) → take (count + 1) copy ≡ putAt at pair (take count rows)
       → Holds copy (putAt at (rowOf pair) (rowsOf rows count))
@@ -107,7 +109,7 @@ module _ (rows : List (List ℕ)) (count : ℕ) (fits : count ≤ length rows) w
         (omega (arith, here, count-rows, a .within), omega (arith, l, count-rows, inserted-more k (rowsOf rows count) v h))
 
     pub inserted-kept : (v : ℕ) → present k (rowsOf rows count) ≡ true → Holds rows (inserted k v (rowsOf rows count))
-    inserted-kept v h = rw (there k (rowsOf rows count) h .inserts v) kept
+    inserted-kept v h = rw (there k (rowsOf rows count) h .inserts v) (kept rows count)
 
     pub inserted-put : (v : ℕ) (copy : List (List ℕ)) → present k (rowsOf rows count) ≡ false
         → take (count + 1) copy ≡ putAt at (k ∷ v ∷ []) (take count rows) → Holds copy (inserted k v (rowsOf rows count))
@@ -118,11 +120,11 @@ module _ (rows : List (List ℕ)) (count : ℕ) (fits : count ≤ length rows) w
     deleted-removed copy h e = rw (there k (rowsOf rows count) h .deletes, ← here) (removed copy at (within h) e)
 
     pub deleted-kept : present k (rowsOf rows count) ≡ false → Holds rows (deleted k (rowsOf rows count))
-    deleted-kept h = rw (absent k (rowsOf rows count) h .deletes) kept
+    deleted-kept h = rw (absent k (rowsOf rows count) h .deletes) (kept rows count)
 
     pub modified-set : (v : ℕ) → present k (rowsOf rows count) ≡ true
         → Holds (set rows at (k ∷ v ∷ [])) (modified k v (rowsOf rows count))
     modified-set v h = rw (there k (rowsOf rows count) h .modifies v, ← here) (replaced at (k ∷ v ∷ []) (within h))
 
     pub modified-kept : (v : ℕ) → present k (rowsOf rows count) ≡ false → Holds rows (modified k v (rowsOf rows count))
-    modified-kept v h = rw (absent k (rowsOf rows count) h .modifies v) kept
+    modified-kept v h = rw (absent k (rowsOf rows count) h .modifies v) (kept rows count)

@@ -21,6 +21,11 @@ module _ {A : Type 0} where
   removed-next (y ∷ z ∷ ys) zero d h = refl
   removed-next (y ∷ z ∷ ys) (suc i) d h = ap (λ q. y ∷ q) (removed-next (z ∷ ys) i d (le-of-suc-le-suc h))
 
+  pub take-taken : (n : ℕ) (xs : List A) → take (length (take n xs)) xs ≡ take n xs
+  take-taken zero xs = refl
+  take-taken (suc n) [] = refl
+  take-taken (suc n) (x ∷ xs) = ap (λ q. x ∷ q) (take-taken n xs)
+
   pub put-last : (xs : List A) (x : A) → putAt (length xs) x xs ≡ xs ++ (x ∷ [])
   put-last [] x = refl
   put-last (y ∷ ys) x = ap (λ q. y ∷ q) (put-last ys x)

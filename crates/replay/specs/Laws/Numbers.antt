@@ -14,7 +14,7 @@ use Rattle.operations.specs.Laws.Cases.{same}
 use Rattle.operations.specs.Stored.{operationOf}
 use Rattle.replay.specs.Replay.{rowsOf, nextOf, nextBy, replyOf, replyBy, Holds}
 use Rattle.replay.specs.Laws.Positions.{there, absent, inserted-same, inserted-more, deleted-less, deleted-same, modified-same}
-use Rattle.replay.specs.Laws.Copies.{count-rows, kept, popped, pushed}
+use Rattle.replay.specs.Laws.Copies.{count-rows, kept, popped}
 
 past : {n : ℕ} (k : ℕ) → (n ≡ k → ⊥) → k ≤ n → k < n
 past k other h = omega arith
@@ -30,7 +30,7 @@ module _ (o : Operation) where
     next-at : {n : ℕ} → o .number ≡ n → nextOf o rs ≡ nextBy (stored (λ k. k) n (o .key) (o .value)) rs
     next-at e = ap (λ q. nextBy q rs) (named e)
 
-    next-push : o .number ≡ 1 → nextOf o rs ≡ rs ++ (row (o .key) 0 ∷ [])
+    pub next-push : o .number ≡ 1 → nextOf o rs ≡ rs ++ (row (o .key) 0 ∷ [])
     next-push e = next-at e
 
     next-pop : o .number ≡ 2 → nextOf o rs ≡ take (length rs - 1) rs
@@ -100,6 +100,15 @@ module _ (o : Operation) where
         let above-9 : 9 < o .number = past 9 n9 (past 8 (λ e. n811 (inl e)) (past 7 n7 l)) in
         sym (ap (λ q. replyBy q rs) (unnamed (past 11 (λ e. n811 (inr e)) (past 10 n10 above-9))))
 
+-- A number that is none of these leaves the copy as it is.
+module _ (o : Operation) (rows : List (List ℕ)) (count : ℕ) where
+  pub unchanged-holds : (o .number ≡ 1 → ⊥) → (o .number ≡ 4 → ⊥) → ((o .number ≡ 5) ⊎ (o .number ≡ 8) → ⊥) → (o .number ≡ 7 → ⊥) → (o .number ≡ 11 → ⊥)
+      → Holds rows (nextOf o (rowsOf rows count))
+  unchanged-holds n1 n4 n58 n7 n11 =
+      same (o .number) 2
+      (λ e. rw (next-pop o (rowsOf rows count) e) (popped rows count))
+      (λ n2. rw (next-same o (rowsOf rows count) n1 n2 n4 (λ e. n58 (inl e)) n7 (λ e. n58 (inr e)) n11) (kept rows count))
+
 -- Of a copy of `count` rows: how many there are afterwards, and what an unchanged copy holds.
 module _ (o : Operation) (rows : List (List ℕ)) (count : ℕ) (fits : count ≤ length rows) where
   counted : (next : List Row) (n : ℕ) → nextOf o (rowsOf rows count) ≡ next → (length (rowsOf rows count) ≡ count → length next ≡ n)
@@ -155,29 +164,19 @@ module _ (o : Operation) (rows : List (List ℕ)) (count : ℕ) (fits : count �
       (next-same o (rowsOf rows count) n1 n2 (λ e. n47 (inl e)) (λ e. n58 (inl e)) (λ e. n47 (inr e)) (λ e. n58 (inr e)) n11)
       (λ l. l))
 
-  pub unchanged-holds : (o .number ≡ 1 → ⊥) → (o .number ≡ 4 → ⊥) → ((o .number ≡ 5) ⊎ (o .number ≡ 8) → ⊥) → (o .number ≡ 7 → ⊥) → (o .number ≡ 11 → ⊥)
-      → Holds rows (nextOf o (rowsOf rows count))
-  unchanged-holds n1 n4 n58 n7 n11 =
-      same (o .number) 2
-      (λ e. rw (next-pop o (rowsOf rows count) e) (popped rows count fits))
-      (λ n2. rw (next-same o (rowsOf rows count) n1 n2 n4 (λ e. n58 (inl e)) n7 (λ e. n58 (inr e)) n11) (kept rows count fits))
-
   -- An insert changes nothing where the key is there, a delete or a modify where it is not.
   pub insert-keeps : (o .number ≡ 4) ⊎ (o .number ≡ 7) → present (o .key) (rowsOf rows count) ≡ true → Holds rows (nextOf o (rowsOf rows count))
   insert-keeps e h =
       let i = next-insert e in
-      rw (i .1, there (o .key) (rowsOf rows count) h .inserts (i .0)) (kept rows count fits)
+      rw (i .1, there (o .key) (rowsOf rows count) h .inserts (i .0)) (kept rows count)
 
   pub absent-keeps : (o .number ≡ 5) ⊎ ((o .number ≡ 8) ⊎ (o .number ≡ 11)) → present (o .key) (rowsOf rows count) ≡ false
       → Holds rows (nextOf o (rowsOf rows count))
   absent-keeps e h =
       let a = absent (o .key) (rowsOf rows count) h in
       let deletes : (o .number ≡ 5) ⊎ (o .number ≡ 8) → Holds rows (nextOf o (rowsOf rows count)) =
-      λ d. rw (next-delete o (rowsOf rows count) d, a .deletes) (kept rows count fits)
+      λ d. rw (next-delete o (rowsOf rows count) d, a .deletes) (kept rows count)
       in
       ⊎-elim (λ d. deletes (inl d))
-      (⊎-elim (λ d. deletes (inr d)) (λ m. rw (next-modify o (rowsOf rows count) m, a .modifies (o .value)) (kept rows count fits)))
+      (⊎-elim (λ d. deletes (inr d)) (λ m. rw (next-modify o (rowsOf rows count) m, a .modifies (o .value)) (kept rows count)))
       e
-
-  pub push-holds : o .number ≡ 1 → count < length rows → Holds (set rows count (o .key ∷ 0 ∷ [])) (nextOf o (rowsOf rows count))
-  push-holds e h = rw (next-push o (rowsOf rows count) e) (pushed rows count fits (o .key ∷ 0 ∷ []) h)

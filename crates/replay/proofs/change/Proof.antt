@@ -1,28 +1,25 @@
--- `replay::next_rows`: each arm is its operation; every other number, a pop among them, leaves the copy as it was.
-use Prim.Native.Nat.{_≤_, _<_}
+-- `replay::change`: each arm is its operation; every other number, a pop among them, leaves the copy as it was.
 use mathlib.Core.Logic.{⊎-elim}
 use mathlib.Core.List.{List}
 use native.Mathlib.Omega.{arith}
 use borrow.Author.Needs.{needs}
-use lib.ListN.{length}
 use Rattle.operations.specs.Operations.{Row}
 use Rattle.operations.specs.declared.Operation.{Operation}
 use Rattle.replay.specs.Replay.{rowsOf}
-use Rattle.replay.specs.Laws.Numbers.{next-set-insert, next-table-insert, next-delete, next-modify, count-push, push-holds, unchanged-holds}
-use Rattle.replay.proofs.next_rows.Statement.{statement}
-use Rattle.replay.proofs.next_rows.Tie as tie
+use Rattle.replay.specs.Laws.Numbers.{next-push, next-set-insert, next-table-insert, next-delete, next-modify, unchanged-holds}
+use Rattle.replay.proofs.change.Statement.{statement}
+use Rattle.replay.proofs.change.Tie as tie
 
 abbrev asked : tie.Start → Operation
 asked s = s .args .operation
 
 abbrev filled : tie.Start → List Row
-filled s = rowsOf (s .args .rows) (s .args .count)
+filled s = rowsOf (s .args .rows .now) (s .args .count)
 
-fits : (c : tie.Start) → c .args .count ≤ length (c .args .rows)
-fits c = omega (arith, c .good .0 .1 .0 .1)
-
-below : (c : tie.At-match-keys1) → c .before .args .count < 64
-below c = let start = c .before in omega (arith, start .pre .1, count-push (asked start) (start .args .rows) (start .args .count) (fits start) (c .match .keys1))
+push-requires : tie.Need-push-requires
+push-requires c κs =
+    let start = c .before .before in
+    (start .pre .0, (rw (next-push (asked start) (filled start) (c .before .match .keys1)) at (start .pre .1)))
 
 insert-requires : tie.Need-insert-requires
 insert-requires c κs =
@@ -43,7 +40,7 @@ modify-requires : tie.Need-modify-requires
 modify-requires c κs = let pre = c .before .before .pre in (pre .0, pre .2 (omega (arith, c .before .match .keys5)))
 
 returns : tie.Need-returns
-returns c = push-holds (asked (c .before)) _ _ (fits (c .before)) (c .match .keys1) (omega (arith, below c, c .before .good .0 .1 .0 .1))
+returns c = let start = c .before .before .before in rw (next-push (asked start) (filled start) (c .before .before .match .keys1)) (c .push .ensures)
 
 returns-2 : tie.Need-returns-2
 returns-2 c = let start = c .before .before .before in rw (next-set-insert (asked start) (filled start) (c .before .before .match .keys2)) (c .insert .ensures)
@@ -60,14 +57,13 @@ returns-5 c = let start = c .before .before .before in rw (next-modify (asked st
 returns-6 : tie.Need-returns-6
 returns-6 c =
     let rest = c .match .rest in
-    unchanged-holds (c .before .args .operation) _ _ (fits (c .before)) (rest .0 .0 .0 .0 .1) (rest .0 .0 .0 .1) (rest .0 .0 .1) (rest .0 .1) (rest .1)
+    unchanged-holds (c .before .args .operation) (c .before .args .rows .now) (c .before .args .count) (rest .0 .0 .0 .0 .1) (rest .0 .0 .0 .1) (rest .0 .0 .1) (rest .0 .1) (rest .1)
 
-pub next-rows-spec : {M : Type 1} → statement M
-next-rows-spec =
+pub change-spec : {M : Type 1} → statement M
+change-spec =
     tie.close
     (tie.spec
-    (λ c. search needs)
-    below
+    push-requires
     insert-requires
     delete-requires
     insert-requires-2
