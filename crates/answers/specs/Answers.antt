@@ -2,11 +2,15 @@
 use Prim.Native.Nat.{ℕ, _+_, _≤_, _<_}
 use mathlib.Core.Path.{_≡_}
 use mathlib.Core.Bool.{cond, _||_}
+use mathlib.Core.Option.{some}
 use mathlib.Core.List.{List, [], _∷_}
 use lib.Dec.{eqb}
 use lib.ListN.{length, getD, drop}
-use Rattle.operations.specs.Operations.{Row, Operation, Reply, next, reply}
-use Rattle.operations.specs.Log.{Entry}
+use Rattle.operations.specs.Operations.{Row, Operation, Reply, next, reply, kindOf, numberOf, reduceKey, StoredKey, WellFormed, All}
+use Rattle.operations.specs.declared.Operation as words
+use Rattle.operations.specs.Stored.{operationOf}
+use Rattle.operations.specs.Log.{Entry, EntryFits}
+use Rattle.operations.specs.Laws.Objects.{object}
 use Rattle.store.specs.Store.{onObject}
 use Rattle.store.specs.Layout.{word, tabulate, entryStart, entryAt, rowsAt, additions}
 
@@ -30,6 +34,14 @@ entriesFrom w o i = onObject o (drop i (tabulate (word w 0) (entryAt w)))
 
 abbrev pub ObjectAnswered : List ℕ → ℕ → Type 0
 ObjectAnswered w o = Replayed (length (rowsAt w o)) (entriesFrom w o 0) (rowsAt w o)
+
+-- A request on an object: its words name an operation of a kind that the object's rows and entries are of.
+pub record Requested (w : List ℕ) (o : ℕ) (operation : words.Operation) (requested : Operation) : Type 0 where
+  pub number : operation .number ≡ numberOf requested
+  pub named : operationOf operation ≡ some requested
+  pub key : StoredKey reduceKey requested
+  pub rows : WellFormed reduceKey (kindOf requested) (rowsAt w o)
+  pub entries : All (EntryFits (object reduceKey (kindOf requested))) (entriesFrom w o 0)
 
 -- The object's first entry at or after a place, or the number of entries.
 pub record NextEntry (w : List ℕ) (o from at : ℕ) : Type 0 where

@@ -5,11 +5,12 @@ ghost use mathlib.Core.Path.{_≡_};
 ghost use mathlib.Core.Bool.{true};
 ghost use mathlib.Core.Logic.{_↔_};
 ghost use Prim.Native.Nat.{_<_};
+ghost use Rattle.operations.specs.Operations as model;
 ghost use Rattle.operations.specs.Stored.{asReply};
 ghost use Rattle.replay.specs.Replay.{replyOf};
 ghost use Rattle.store.specs.Layout.{word, decode, rowsAt, Packed, base};
 ghost use Rattle.store.specs.Soundness.{EntriesFit, EntriesAnswered, Room};
-ghost use Rattle.answers.specs.Answers.{NextEntry, Links, Linked, rowsNeeded, ObjectAnswered, entriesFrom, replayed};
+ghost use Rattle.answers.specs.Answers.{NextEntry, Links, Linked, rowsNeeded, ObjectAnswered, entriesFrom, replayed, Requested};
 
 // Links the log's entries by object, from the last: the first entry of each object, and at each entry the next one of its object.
 // The number of entries stands for no entry.
@@ -111,9 +112,10 @@ pub fn used(book: &[u32], object: usize) -> usize
     used
 }
 
-// The answer that replay gives an operation after the object's rows and its entries in order.
+// The answer that replay gives an operation after the object's rows and its entries in order. Entries that the operation is recoverable against
+// don't change its answer, and are left out.
 pub fn answer(book: &[u32], object: usize, operation: Operation) -> Reply
-    requires { ⌜ Packed base (now book) × (object < 16) × Room base (decode base (now book)) ⌝ }
+    requires { ⌜ Packed base (now book) × (object < 16) × Room base (decode base (now book)) × ((o : model.Operation) × Requested (now book) object operation o) ⌝ }
     ensures { λ r. ⌜ asReply r ≡ replyOf operation (replayed (entriesFrom (now (book .entry)) object 0) (rowsAt (now (book .entry)) object)) ⌝ }
 {
     let entries = layout::entry_count(book);
@@ -123,12 +125,12 @@ pub fn answer(book: &[u32], object: usize, operation: Operation) -> Reply
         let on = layout::wide(layout::entry_object(book, i));
         if on == object {
             let logged = layout::entry_operation(book, i);
-            let at = replay::place(&rows, count, logged);
-            let next = replay::next_count(&rows, count, at, logged);
-            if !replay::keeps_rows(&rows, count, at, logged) {
+            if !pairs::recoverable(operation, logged) {
+                let at = replay::place(&rows, count, logged);
+                let next = replay::next_count(&rows, count, at, logged);
                 rows = replay::next_rows(rows, count, at, logged);
+                count = next;
             }
-            count = next;
         }
     }
     let at = replay::place(&rows, count, operation);

@@ -2,7 +2,6 @@
 use operations::Operation;
 use operations::Reply;
 ghost use mathlib.Core.Path.{_≡_};
-ghost use mathlib.Core.Bool.{true};
 ghost use mathlib.Core.List.{[], _∷_, _++_, map};
 ghost use Prim.Native.Nat.{_+_, _-_, _<_, _≤_};
 ghost use lib.ListN.{length, take};
@@ -148,23 +147,6 @@ pub fn next_rows(
     let mut rows = rows;
     change(&mut rows, count, at, operation);
     rows
-}
-
-// Whether the copy, left as it is, begins with the rows after the operation: a caller then spares itself `next_rows`, which copies all 64 pairs.
-pub fn keeps_rows(rows: &[[u32; 2]; 64], count: usize, at: usize, operation: Operation) -> bool
-    requires { ⌜ (count ≤ 64) × Placed operation (rowsOf (now rows) count) at ⌝ }
-    ensures { λ r. ⌜ (r ≡ true → Holds (now (rows .entry)) (nextOf operation (rowsOf (now (rows .entry)) count))) ⌝ }
-{
-    let whole = &rows[..];
-    let filled = &whole[..count];
-    let number = operation.number;
-    let key = operation.key;
-    match number {
-        1 => false,
-        4 | 7 => present(filled, at, key),
-        5 | 8 | 11 => !present(filled, at, key),
-        _ => true,
-    }
 }
 
 // How many rows there are after the operation.

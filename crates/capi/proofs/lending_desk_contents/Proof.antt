@@ -1,6 +1,6 @@
 -- `capi::lending_desk_contents`: the number of rows from its twin, and where they start.
 use Prim.Native.Nat.{ℕ, _+_, _<_}
-use mathlib.Core.Path.{_≡_, ap, _∙_}
+use mathlib.Core.Path.{ap, _∙_}
 use native.Mathlib.Omega.{arith}
 use borrow.Author.Needs.{needs}
 use Rattle.store.specs.Layout.{objectStart}

@@ -18,6 +18,21 @@ module _ (X : ObjectType) where
   pub same-reply : (o p : Operation) (s : State) → Fits o → Fits p → Valid s → recoverable o p ≡ true → reply o (next p s) ≡ reply o s
   same-reply o p s fo fp v e = reply-view o (next p s) s fo (valid-next p s fp v) v (view-recoverable o p s fo fp v e)
 
+  -- States that an operation's view doesn't tell apart get it the same reply after any entries.
+  same-after : (o : Operation) (l : log.Log X) (s t : State) → Fits o → Valid s → Valid t → All (log.EntryFits X) l → view o s ≡ view o t
+      → reply o (log.after X l s) ≡ reply o (log.after X l t)
+  same-after o [] s t fo vs vt f e = reply-view o s t fo vs vt e
+  same-after o (x ∷ l) s t fo vs vt f e =
+      let p : Operation = x .operation in
+      same-after o l (next p s) (next p t) fo (valid-next p s (f .0) vs) (valid-next p t (f .0) vt) (f .1) (view-next o p s t fo (f .0) vs vt e)
+
+  -- An entry that the operation is recoverable against may be left out, whatever comes between.
+  pub left-out-before : (o : Operation) (x : Entry) (l : log.Log X) (s : State) → Fits o → All (log.EntryFits X) (x ∷ l) → Valid s
+      → recoverable o (x .operation) ≡ true → reply o (log.after X l s) ≡ reply o (log.after X (x ∷ l) s)
+  left-out-before o x l s fo f v e =
+      same-after o l s (next (x .operation) s) fo v (valid-next (x .operation) s (f .0) v) (f .1)
+      (sym (view-recoverable o (x .operation) s fo (f .0) v e))
+
   -- Operations that commute reach one state, with the same replies, in either order.
   pub either-order : (o p : Operation) (s : State) → Fits o → Fits p → Valid s → commutes o p ≡ true
       → (next o (next p s) ≡ next p (next o s)) × (reply o (next p s) ≡ reply o s) × (reply p (next o s) ≡ reply p s)

@@ -2,7 +2,6 @@
 use mathlib.Core.Logic.{⊎-elim}
 use mathlib.Core.List.{List}
 use native.Mathlib.Omega.{arith}
-use borrow.Author.Needs.{needs}
 use Rattle.operations.specs.Operations.{Row}
 use Rattle.operations.specs.declared.Operation.{Operation}
 use Rattle.replay.specs.Replay.{rowsOf}

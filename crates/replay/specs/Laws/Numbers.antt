@@ -6,14 +6,14 @@ use mathlib.Core.Bool.{true, false, not}
 use mathlib.Core.Option.{none, some}
 use mathlib.Core.List.{List, [], _∷_, _++_, map}
 use native.Mathlib.Omega.{arith}
-use lib.ListN.{length, take, set, length-append, List·getD-eq-default}
+use lib.ListN.{length, take, length-append, List·getD-eq-default}
 use lib.Seq.{length-take-le}
 use Rattle.operations.specs.Operations.{Row, row, numbered, stored, inserted, deleted, modified, present, found, topItem, flag, valued, replied}
 use Rattle.operations.specs.declared.Operation.{Operation}
 use Rattle.operations.specs.Laws.Cases.{same}
 use Rattle.operations.specs.Stored.{operationOf}
 use Rattle.replay.specs.Replay.{rowsOf, nextOf, nextBy, replyOf, replyBy, Holds}
-use Rattle.replay.specs.Laws.Positions.{there, absent, inserted-same, inserted-more, deleted-less, deleted-same, modified-same}
+use Rattle.replay.specs.Laws.Positions.{inserted-same, inserted-more, deleted-less, deleted-same, modified-same}
 use Rattle.replay.specs.Laws.Copies.{count-rows, kept, popped}
 
 past : {n : ℕ} (k : ℕ) → (n ≡ k → ⊥) → k ≤ n → k < n
@@ -109,7 +109,7 @@ module _ (o : Operation) (rows : List (List ℕ)) (count : ℕ) where
       (λ e. rw (next-pop o (rowsOf rows count) e) (popped rows count))
       (λ n2. rw (next-same o (rowsOf rows count) n1 n2 n4 (λ e. n58 (inl e)) n7 (λ e. n58 (inr e)) n11) (kept rows count))
 
--- Of a copy of `count` rows: how many there are afterwards, and what an unchanged copy holds.
+-- Of a copy of `count` rows: how many there are afterwards.
 module _ (o : Operation) (rows : List (List ℕ)) (count : ℕ) (fits : count ≤ length rows) where
   counted : (next : List Row) (n : ℕ) → nextOf o (rowsOf rows count) ≡ next → (length (rowsOf rows count) ≡ count → length next ≡ n)
       → n ≡ length (nextOf o (rowsOf rows count))
@@ -163,20 +163,3 @@ module _ (o : Operation) (rows : List (List ℕ)) (count : ℕ) (fits : count �
       (λ n11. counted _ _
       (next-same o (rowsOf rows count) n1 n2 (λ e. n47 (inl e)) (λ e. n58 (inl e)) (λ e. n47 (inr e)) (λ e. n58 (inr e)) n11)
       (λ l. l))
-
-  -- An insert changes nothing where the key is there, a delete or a modify where it is not.
-  pub insert-keeps : (o .number ≡ 4) ⊎ (o .number ≡ 7) → present (o .key) (rowsOf rows count) ≡ true → Holds rows (nextOf o (rowsOf rows count))
-  insert-keeps e h =
-      let i = next-insert e in
-      rw (i .1, there (o .key) (rowsOf rows count) h .inserts (i .0)) (kept rows count)
-
-  pub absent-keeps : (o .number ≡ 5) ⊎ ((o .number ≡ 8) ⊎ (o .number ≡ 11)) → present (o .key) (rowsOf rows count) ≡ false
-      → Holds rows (nextOf o (rowsOf rows count))
-  absent-keeps e h =
-      let a = absent (o .key) (rowsOf rows count) h in
-      let deletes : (o .number ≡ 5) ⊎ (o .number ≡ 8) → Holds rows (nextOf o (rowsOf rows count)) =
-      λ d. rw (next-delete o (rowsOf rows count) d, a .deletes) (kept rows count)
-      in
-      ⊎-elim (λ d. deletes (inl d))
-      (⊎-elim (λ d. deletes (inr d)) (λ m. rw (next-modify o (rowsOf rows count) m, a .modifies (o .value)) (kept rows count)))
-      e

@@ -1,5 +1,5 @@
 -- A code found in the tables, and the rule of the two operations.
-use Prim.Native.Nat.{ℕ, _-_, _≤_}
+use Prim.Native.Nat.{ℕ, _-_}
 use mathlib.Core.Path.{_≡_, refl, sym, ap, ap₂, _∙_}
 use mathlib.Core.Bool.{Bool, true, false, not}
 use mathlib.Core.Option.{some, Option·some-injective}
@@ -8,9 +8,9 @@ use borrow.Author.Tests.{eq-eqb, ne-eqb}
 use lib.Dec.{eqb}
 use Rattle.operations.specs.Operations as model
 use Rattle.operations.specs.declared.Operation.{Operation}
-use Rattle.operations.specs.PairRules.{Rule, always, never, apart, recoverable, recoverableRules, firstNumber, lastNumber}
+use Rattle.operations.specs.PairRules.{Rule, always, never, apart, recoverable, recoverableRules, firstNumber}
 use Rattle.operations.specs.Stored.{operationOf}
-use Rattle.operations.specs.Laws.Storing.{read-back}
+use Rattle.operations.specs.Laws.Storing.{read-back, numbers}
 use Rattle.store.specs.Layout.{kindWord}
 use Rattle.pairs.specs.Pairs.{codeOf, codeAt, allowsKeys, both}
 use Rattle.pairs.specs.Laws.{Within, recoverableKeyed, decided}
@@ -22,20 +22,6 @@ named operation o (n, k, v) = cc (read-back o)
 
 pub one-named : (operation : Operation) (o p : model.Operation) → StoredAs operation o → StoredAs operation p → o ≡ p
 one-named operation o p s t = Option·some-injective o p (sym (named operation o s) ∙ named operation p t)
-
--- Its number is one of its kind.
-numbers : (o : model.Operation) → (firstNumber (model.kindOf o) ≤ model.numberOf o) × (model.numberOf o ≤ lastNumber (model.kindOf o))
-numbers (model.onStack (model.push x)) = (omega arith, omega arith)
-numbers (model.onStack model.pop) = (omega arith, omega arith)
-numbers (model.onStack model.top) = (omega arith, omega arith)
-numbers (model.onSet (model.setInsert k)) = (omega arith, omega arith)
-numbers (model.onSet (model.setDelete k)) = (omega arith, omega arith)
-numbers (model.onSet (model.member k)) = (omega arith, omega arith)
-numbers (model.onTable (model.tableInsert k v)) = (omega arith, omega arith)
-numbers (model.onTable (model.tableDelete k)) = (omega arith, omega arith)
-numbers (model.onTable (model.lookup k)) = (omega arith, omega arith)
-numbers (model.onTable model.size) = (omega arith, omega arith)
-numbers (model.onTable (model.modify k v)) = (omega arith, omega arith)
 
 -- Requested and logged operation, as stored, of one kind.
 pub record Pair (kind : model.Kind) (requested logged : Operation) (o p : model.Operation) : Type 0 where

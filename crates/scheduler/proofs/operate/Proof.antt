@@ -8,12 +8,13 @@ use Rattle.store.specs.Layout.{base, decode, entryAt, word}
 use Rattle.store.specs.Decisions.{whetherSound}
 use Rattle.store.specs.Laws.Lists.{length-tabulate}
 use Rattle.store.specs.Laws.Reading.{kind-below}
+use Rattle.answers.specs.Answers.{Requested}
 use Rattle.answers.specs.Laws.Requests.{answer-to}
 use Rattle.requests.specs.Laws.Rules.{named}
 use Rattle.protocol.specs.Calls.{request, answerTo}
 use Rattle.protocol.specs.Terms.{OperateAccepted}
 use Rattle.protocol.specs.Laws.Reasons.{operate-accepted}
-use Rattle.scheduler.specs.Laws.Serving.{operate-refused, operate-waits, operate-answers, numbered}
+use Rattle.scheduler.specs.Laws.Serving.{operate-refused, asks, operate-waits, operate-answers, numbered}
 use Rattle.scheduler.proofs.operate.Statement.{statement}
 use Rattle.scheduler.proofs.operate.Tie as tie
 
@@ -59,9 +60,16 @@ waits c =
 
 answer-requires : tie.Need-answer-requires
 answer-requires c κs =
-    let past = c .before .before .before .before .before .before in
+    let asked = c .before .before .before .before .before in
+    let past = asked .before in
     let a = is-accepted past in
-    (a .sound .packed, subst (λ (n : ℕ). n < 16) (sym (c .wide .ensures)) (within past), a .sound .store .unsettled .room)
+    let s = start past .args in
+    let request = asks (s .book .now) (s .transaction) (s .object) (s .operation) (s .key) (s .value) (asked .request .result) a (asked .request .ensures) in (
+      a .sound .packed,
+      subst (λ (n : ℕ). n < 16) (sym (c .wide .ensures)) (within past),
+      a .sound .store .unsettled .room,
+      (requested past, subst (λ (n : ℕ). Requested (s .book .now) n (asked .request .result) (requested past)) (sym (c .wide .ensures)) request),
+    )
 
 append-requires : tie.Need-append-requires
 append-requires c κs =

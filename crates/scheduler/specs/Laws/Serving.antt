@@ -7,25 +7,32 @@ use mathlib.Core.Option.{Option, none, some, Option·none-ne-some}
 use mathlib.Core.List.{List, [], _∷_, map}
 use native.Mathlib.Omega.{arith}
 use lib.ListN.{length, List·getD-eq-default}
-use Rattle.operations.specs.Operations.{Operation, Reply, stored, reduceKey, numbered as operations}
+use Rattle.operations.specs.declared.Operation as words
+use Rattle.operations.specs.Operations.{Operation, Reply, kindOf, stored, reduceKey, numbered as operations}
 use Rattle.pairs.specs.Pairs.{Numbered}
 use Rattle.store.specs.Store.{Status, Store, active, pseudoCommitted, objectOf, onObject, pseudoCommittedCount}
 use Rattle.store.specs.Layout.{base, encode, decode, readStatus, joined, rowWords}
 use Rattle.store.specs.Dependency.{Ready, OnCycle}
 use Rattle.store.specs.Decisions.{whetherSound, whetherReady, whetherOnCycle}
 use Rattle.store.specs.Steps.{appended, withStatus}
+use Rattle.store.specs.Laws.Reading.{kind-below}
 use Rattle.store.specs.Laws.Words.{below}
 use Rattle.store.specs.Laws.Deciding.{decided}
 use Rattle.statuses.specs.Laws.Words.{finished-read}
 use Rattle.layout.specs.Nobody.{Names}
 use Rattle.layout.specs.Laws.{names-nobody, names-somebody}
-use Rattle.log.specs.Log.{logged}
+use Rattle.log.specs.Log.{logged, StoredAs}
+use Rattle.answers.specs.Answers.{Requested}
+use Rattle.answers.specs.Laws.Whole.{rows-read}
+use Rattle.requests.specs.Laws.Rules.{named}
 use Rattle.ending.specs.Ending.{Concluded}
 use Rattle.protocol.specs.Replies.{Response, ok, answered, wait, counted, refused, outcome, Served, served}
 use Rattle.protocol.specs.Replies as replies
 use Rattle.protocol.specs.Ending.{Settlement, ended, commit, committedFirst, settledAll}
 use Rattle.protocol.specs.Calls as calls
-use Rattle.protocol.specs.Laws.Reasons.{unless-refused, unless-accepted}
+use Rattle.protocol.specs.Terms.{OperateAccepted}
+use Rattle.protocol.specs.Laws.Ending.{entries-fit}
+use Rattle.protocol.specs.Laws.Reasons.{unless-refused, unless-accepted, request-reduced}
 
 module _ (n reason : ℕ) (found : reason ≡ n) (w list : List ℕ) (s : Served) where
   said-no : (reason ≡ 0 → ⊥) → served w (outcome (refused reason) list []) ≡ calls.unless n w list s
@@ -57,6 +64,20 @@ module _ (w : List ℕ) (t reason : ℕ) (found : reason ≡ calls.beginReason b
   begin-done e after written = ap (λ (x : List ℕ). served x (outcome ok [] [])) written ∙ accepted _ reason found w [] _ e
 
 -- ---- Operate
+
+-- An accepted operation, as stored, asks for something of the object's kind.
+pub asks : (w : List ℕ) (t o number k v : ℕ) (operation : words.Operation) → OperateAccepted base w t o number k v
+    → StoredAs operation (calls.request base number k v) → Requested w o operation (calls.request base number k v)
+asks w t o number k v operation a stored =
+    let requested = calls.request base number k v in
+    let s = a .sound .store .unsettled in
+    record {
+      number = stored .0;
+      named = named operation requested stored;
+      key = request-reduced number k v;
+      rows = rw (← rows-read w o (kind-below base w o (kindOf requested) (a .kind))) (s .rows o (kindOf requested) (a .kind));
+      entries = entries-fit (decode base w) o (kindOf requested) (a .kind) (decode base w .log) (s .fits) (s .reduced);
+    }
 
 module _ (w : List ℕ) (t o : ℕ) (requested : Operation) (owner : ℕ) where
   waits : (blocked : Option ℕ) → Names owner blocked → (owner ≡ 64 → ⊥)
