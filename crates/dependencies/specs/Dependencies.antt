@@ -91,9 +91,14 @@ pub record EntryRead (w : List ℕ) (i transaction object number : ℕ) : Type 0
 abbrev pub Owned : (ℕ → Type 0) → List ℕ → ℕ → ℕ → ℕ → Type 0
 Owned P w n m b = Some (λ j. P j × (columnOf (numberAt w j) ≡ m) × (transactionAt w j ≡ b)) n
 
+-- A row has a set for each column, with the members that a relation tells.
+pub record Row (row : List ℕ) (R : ℕ → ℕ → Type 0) : Type 0 where
+  pub columns : length row ≡ 5
+  pub sets : Represents row R
+
 -- A row with one owner more.
 abbrev pub WithOwner : List ℕ → ℕ → ℕ → List ℕ → Type 0
-WithOwner row m t r = Represents r (λ n b. (has (getD row n 0) b ≡ true) ⊎ ((m ≡ n) × (t ≡ b)))
+WithOwner row m t r = Row r (λ n b. (has (getD row n 0) b ≡ true) ⊎ ((m ≡ n) × (t ≡ b)))
 
 abbrev pub On : List ℕ → ℕ → ℕ → Type 0
 On w o j = objectAt w j ≡ o
@@ -102,13 +107,22 @@ On w o j = objectAt w j ≡ o
 abbrev pub Alike : List ℕ → ℕ → ℕ → Type 0
 Alike w i j = (objectAt w j ≡ objectAt w i) × (keyAt w j ≡ keyAt w i)
 
--- The row of each object, and at j + 1 that of the entries up to entry j which are like it; row 0 stands for no entry.
+-- No entry before entry j is like it.
+abbrev pub First : List ℕ → ℕ → Type 0
+First w j = (k : ℕ) → k < j → Alike w j k → ⊥
+
+-- Entry j represents entry i: the first with its object and key.
+pub record Representative (w : List ℕ) (i j : ℕ) : Type 0 where
+  pub within : j ≤ i
+  pub alike : Alike w i j
+  pub first : First w j
+
+-- Of the entries below n: the row of each object, and at j that of the entries like entry j, where that is the first with its object and key.
 pub record Gathered (w : List ℕ) (n : ℕ) (whole same : List (List ℕ)) : Type 0 where
   pub objects : length whole ≡ 16
-  pub entries : length same ≡ 257
-  pub onObject : (o : ℕ) → o < 16 → Represents (getD whole o []) (Owned (On w o) w n)
-  pub none : Represents (getD same 0 []) (λ m b. ⊥)
-  pub alike : (j : ℕ) → j < n → Represents (getD same (j + 1) []) (Owned (Alike w j) w (j + 1))
+  pub entries : length same ≡ 256
+  pub onObject : (o : ℕ) → o < 16 → Row (getD whole o []) (Owned (On w o) w n)
+  pub represented : (j : ℕ) → j < 256 → First w j → Row (getD same j []) (Owned (Alike w j) w n)
 
 -- ---- Entries found again by object and key
 
@@ -122,20 +136,20 @@ pub record Reached (P Q : ℕ → Type 0) (n p : ℕ) : Type 0 where
 abbrev pub Latest : (ℕ → Type 0) → ℕ → ℕ → Type 0
 Latest P n p = Reached P P n p
 
--- The chain that an entry is put in, by its object and key. Any numbers below 256 would do.
+-- The chain of an object and key. Any numbers below 256 would do.
 unfoldable pub slotOf : ℕ → ℕ → ℕ
 slotOf object key = (key % 256 + 16 * object) % 256
 
 abbrev pub slotAt : List ℕ → ℕ → ℕ
 slotAt w i = slotOf (objectAt w i) (keyAt w i)
 
--- Entry j is in a chain.
+-- Entry j is in a chain: one that is the first with its object and key.
 abbrev pub In : List ℕ → ℕ → ℕ → Type 0
-In w s j = slotAt w j ≡ s
+In w s j = First w j × (slotAt w j ≡ s)
 
 -- The latest entry of each chain, and at j + 1 the one before entry j in its chain.
 pub record Chained (w : List ℕ) (n : ℕ) (heads links : List ℕ) : Type 0 where
   pub chains : length heads ≡ 256
   pub entries : length links ≡ 257
   pub latest : (s : ℕ) → s < 256 → Latest (In w s) n (getD heads s 0)
-  pub before : (j : ℕ) → j < n → Latest (In w (slotAt w j)) j (getD links (j + 1) 0)
+  pub before : (j : ℕ) → j < n → First w j → Latest (In w (slotAt w j)) j (getD links (j + 1) 0)

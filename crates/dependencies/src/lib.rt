@@ -4,13 +4,14 @@ ghost use mathlib.Core.Path.{_≡_};
 ghost use mathlib.Core.Bool.{true};
 ghost use mathlib.Core.Logic.{_↔_};
 ghost use Prim.Native.Nat.{_+_, _<_};
+ghost use lib.ListN.{length};
 ghost use Rattle.bitset.specs.Bitset.{Holds, Represents};
 ghost use Rattle.operations.specs.PairRules.{Rule, recoverableRules, commutingRules};
 ghost use Rattle.pairs.specs.Pairs.{codeOf, Numbered, firstOf, columnOf, widthOf};
 ghost use Rattle.store.specs.Layout.{word, base, decode, Packed};
 ghost use Rattle.store.specs.Soundness.{EntriesLive, EntriesFit, EntriesRecoverable};
 ghost use Rattle.store.specs.Dependency.{DependsOn};
-ghost use Rattle.dependencies.specs.Dependencies.{Readable, Barred, picked as Pick, Picked, EntryRead, WithOwner, Alike, Gathered, slotAt, Latest, Chained};
+ghost use Rattle.dependencies.specs.Dependencies.{Readable, Barred, picked as Pick, Picked, EntryRead, WithOwner, Alike, First, Representative, Gathered, slotAt, Latest, Chained};
 
 // Whether each entry is recoverable against every earlier one of another transaction, and for each transaction those that it depends on.
 pub struct LogConflicts {
@@ -96,19 +97,17 @@ fn barring(number: u32, whole: &Owners, same: &Owners) -> Blockers
     }
 }
 
-// The row with an owner more, at the column of an operation.
-fn with_owner(row: Owners, number: u32, owner: u32) -> Owners
-    requires { ⌜ Numbered number × (owner < 64) ⌝ }
-    ensures { λ r. ⌜ WithOwner row (columnOf number) owner r ⌝ }
+// One owner more in a row, at the column of an operation.
+fn add_owner(row: &mut Owners, number: u32, owner: u32)
+    requires { ⌜ (length (now row) ≡ 5) × Numbered number × (owner < 64) ⌝ }
+    ensures { λ r. ⌜ WithOwner (now (row .entry)) (columnOf number) owner (now (row .exit)) ⌝ }
 {
-    let mut row = row;
     let at = layout::wide(number - first(number));
     row[at] = bitset::join(row[at], bitset::single(owner));
-    row
 }
 
-// ---- Entries found again by object and key: `heads` has the latest entry of each chain, `links` at `j + 1` the one before entry `j`. Each is an
-// entry's index plus one, or 0 for none.
+// ---- Entries found again by object and key. The first entry with an object and key is in a chain, and represents those like it: `heads` has the
+// latest entry of each chain, `links` at `j + 1` the one before entry `j`. Each is an entry's index plus one, or 0 for none.
 
 // Whether two entries have one object and one key.
 fn alike(book: &[u32], i: usize, j: usize) -> bool
@@ -132,10 +131,10 @@ fn slot(book: &[u32], i: usize) -> usize
     layout::wide((operation.key % 256 + 16 * layout::entry_object(book, i)) % 256)
 }
 
-// The latest earlier entry with the object and key of entry `i`.
-fn latest(book: &[u32], i: usize, heads: &[usize; 256], links: &[usize; 257]) -> usize
+// The earlier entry that represents entry `i`.
+fn find(book: &[u32], i: usize, heads: &[usize; 256], links: &[usize; 257]) -> usize
     requires { ⌜ Readable (now book) × (i < word (now book) 0) × Chained (now book) i (now heads) (now links) ⌝ }
-    ensures { λ r. ⌜ Latest (Alike (now (book .entry)) i) i r ⌝ }
+    ensures { λ r. ⌜ Latest (Representative (now (book .entry)) i) i r ⌝ }
 {
     let mut at = heads[slot(book, i)];
     while at != 0 {
@@ -147,9 +146,9 @@ fn latest(book: &[u32], i: usize, heads: &[usize; 256], links: &[usize; 257]) ->
     0
 }
 
-// Entry `i` becomes the latest of its chain.
+// Entry `i`, the first with its object and key, becomes the latest of its chain.
 fn chain(book: &[u32], i: usize, heads: &mut [usize; 256], links: &mut [usize; 257])
-    requires { ⌜ Readable (now book) × (i < word (now book) 0) × Chained (now book) i (now heads) (now links) ⌝ }
+    requires { ⌜ Readable (now book) × (i < word (now book) 0) × First (now book) i × Chained (now book) i (now heads) (now links) ⌝ }
     ensures { λ r. ⌜ Chained (now (book .entry)) (i + 1) (now (heads .exit)) (now (links .exit)) ⌝ }
 {
     let at = slot(book, i);
@@ -157,7 +156,20 @@ fn chain(book: &[u32], i: usize, heads: &mut [usize; 256], links: &mut [usize; 2
     heads[at] = i + 1;
 }
 
-// ---- Entry by entry: `whole` has a row for each object, `same` at `j + 1` a row of the entries up to entry `j` that are like it; row 0 is empty.
+// The entry that represents entry `i`: an earlier one, or itself, which is then put in its chain.
+fn represent(book: &[u32], i: usize, heads: &mut [usize; 256], links: &mut [usize; 257]) -> usize
+    requires { ⌜ Readable (now book) × (i < word (now book) 0) × Chained (now book) i (now heads) (now links) ⌝ }
+    ensures { λ r. ⌜ Representative (now (book .entry)) i r × Chained (now (book .entry)) (i + 1) (now (heads .exit)) (now (links .exit)) ⌝ }
+{
+    let at = find(book, i, heads, links);
+    if at == 0 {
+        chain(book, i, heads, links);
+        return i;
+    }
+    at - 1
+}
+
+// ---- Entry by entry: `whole` has a row for each object, `same` at `j` one of the entries that entry `j` represents.
 
 fn read(book: &[u32], i: usize) -> Entry
     requires { ⌜ Readable (now book) × (i < word (now book) 0) ⌝ }
@@ -171,15 +183,15 @@ fn read(book: &[u32], i: usize) -> Entry
     }
 }
 
-// The owners that bar entry `i`, whose like was found at `at`.
+// The owners that bar entry `i`, which entry `at` represents.
 fn blocking(
     book: &[u32],
     i: usize,
     at: usize,
     whole: &[Owners; 16],
-    same: &[Owners; 257],
+    same: &[Owners; 256],
 ) -> Blockers
-    requires { ⌜ Readable (now book) × (i < word (now book) 0) × Latest (Alike (now book) i) i at × Gathered (now book) i (now whole) (now same) ⌝ }
+    requires { ⌜ Readable (now book) × (i < word (now book) 0) × Representative (now book) i at × Gathered (now book) i (now whole) (now same) ⌝ }
     ensures { λ r. ⌜ Barred (now (book .entry)) i (r .unrecoverable) (r .conflicting) ⌝ }
 {
     let entry = read(book, i);
@@ -191,15 +203,33 @@ fn blocking(
     }
 }
 
-// Entry `i`'s owner is put into the row of its object, and into its own: that of the entries like it, and itself.
-fn gather(book: &[u32], i: usize, at: usize, whole: &mut [Owners; 16], same: &mut [Owners; 257])
-    requires { ⌜ Readable (now book) × (i < word (now book) 0) × Latest (Alike (now book) i) i at × Gathered (now book) i (now whole) (now same) ⌝ }
+// Entry `i`'s owner is put into the row of its object, and into that of entry `at`, which represents it.
+fn gather(book: &[u32], i: usize, at: usize, whole: &mut [Owners; 16], same: &mut [Owners; 256])
+    requires { ⌜ Readable (now book) × (i < word (now book) 0) × Representative (now book) i at × Gathered (now book) i (now whole) (now same) ⌝ }
     ensures { λ r. ⌜ Gathered (now (book .entry)) (i + 1) (now (whole .exit)) (now (same .exit)) ⌝ }
 {
     let entry = read(book, i);
     let object = entry.object;
-    whole[object] = with_owner(whole[object], entry.number, entry.transaction);
-    same[i + 1] = with_owner(same[at], entry.number, entry.transaction);
+    add_owner(&mut whole[object], entry.number, entry.transaction);
+    add_owner(&mut same[at], entry.number, entry.transaction);
+}
+
+// The owners that bar entry `i`, which is then entered in the chains and rows.
+fn enter(
+    book: &[u32],
+    i: usize,
+    heads: &mut [usize; 256],
+    links: &mut [usize; 257],
+    whole: &mut [Owners; 16],
+    same: &mut [Owners; 256],
+) -> Blockers
+    requires { ⌜ Readable (now book) × (i < word (now book) 0) × Chained (now book) i (now heads) (now links) × Gathered (now book) i (now whole) (now same) ⌝ }
+    ensures { λ r. ⌜ Barred (now (book .entry)) i (r .unrecoverable) (r .conflicting) × Chained (now (book .entry)) (i + 1) (now (heads .exit)) (now (links .exit)) × Gathered (now (book .entry)) (i + 1) (now (whole .exit)) (now (same .exit)) ⌝ }
+{
+    let at = represent(book, i, heads, links);
+    let found = blocking(book, i, at, whole, same);
+    gather(book, i, at, whole, same);
+    found
 }
 
 pub fn conflicts(book: &[u32]) -> LogConflicts
@@ -207,27 +237,23 @@ pub fn conflicts(book: &[u32]) -> LogConflicts
     ensures { λ r. ⌜ ((r .recoverable ≡ true) ↔ EntriesRecoverable base (decode base (now (book .entry)))) × Represents (r .dependencies) (DependsOn (decode base (now (book .entry)) .log)) ⌝ }
 {
     let count = layout::entry_count(book);
-    let mut dependencies = [0u64; 64];
     if count == 0 {
         return LogConflicts {
             recoverable: true,
-            dependencies: dependencies,
+            dependencies: [0u64; 64],
         };
     }
+    let mut dependencies = [0u64; 64];
     let mut whole = [[0u64; 5]; 16];
-    let mut same = [[0u64; 5]; 257];
+    let mut same = [[0u64; 5]; 256];
     let mut heads = [0usize; 256];
     let mut links = [0usize; 257];
     let mut unrecoverable: u64 = 0;
     for i in 0..count {
-        let at = latest(book, i, &heads, &links);
-        let found = blocking(book, i, at, &whole, &same);
-        let entry = read(book, i);
-        let requester = layout::wide(entry.transaction);
+        let found = enter(book, i, &mut heads, &mut links, &mut whole, &mut same);
+        let requester = layout::wide(layout::entry_transaction(book, i));
         dependencies[requester] = bitset::join(dependencies[requester], found.conflicting);
         unrecoverable = bitset::join(unrecoverable, found.unrecoverable);
-        chain(book, i, &mut heads, &mut links);
-        gather(book, i, at, &mut whole, &mut same);
     }
     LogConflicts {
         recoverable: unrecoverable == 0,

@@ -8,7 +8,8 @@ use Rattle.dependencies.proofs.chain.Tie as tie
 returns : tie.Need-returns
 returns c =
     let start = c .before .before .before in
-    chained-more _ (start .args .i) _ _ (start .pre .2) _ (c .before .slot .ensures .0) (c .before .slot .ensures .1) (omega (arith, start .pre .0 .entries, start .pre .1))
+    chained-more _ (start .args .i) _ _ (start .pre .3) _ (c .before .slot .ensures .0) (c .before .slot .ensures .1)
+    (omega (arith, start .pre .0 .entries, start .pre .1)) (start .pre .2)
 
 pub chain-spec : {M : Type 1} → statement M
 chain-spec =

@@ -6,7 +6,7 @@ use lib.ListN.{length, length-set}
 use Rattle.bitset.specs.Bitset.{Holds, Represents}
 use Rattle.operations.specs.PairRules.{commutes}
 use Rattle.store.specs.Layout.{word}
-use Rattle.dependencies.specs.Dependencies.{Readable, BarsBelow, Unrecoverable, Gathered, Chained}
+use Rattle.dependencies.specs.Dependencies.{transactionAt, Readable, BarsBelow, Unrecoverable, Gathered, Chained}
 use Rattle.dependencies.specs.Laws.Entries.{readable}
 use Rattle.dependencies.specs.Laws.Rows.{gathered-none}
 use Rattle.dependencies.specs.Laws.Chains.{chained-none}
@@ -17,7 +17,7 @@ use Rattle.dependencies.proofs.conflicts.Tie as tie
 abbrev Inv-loop : tie.InvT-loop
 Inv-loop book count dependencies₀ whole₀ same₀ heads₀ links₀ unrecoverable₀ i₀ dependencies whole same heads links unrecoverable i =
     (i ≤ word book 0) × (length dependencies ≡ 64) × Represents dependencies (BarsBelow commutes book i) × Holds unrecoverable (Unrecoverable book i)
-    × Gathered book i whole same × Chained book i heads links
+    × Chained book i heads links × Gathered book i whole same
 
 abbrev μ-loop : tie.MeasureT-loop
 μ-loop book count dependencies₀ whole₀ same₀ heads₀ links₀ unrecoverable₀ i₀ dependencies whole same heads links unrecoverable i = word book 0 - i
@@ -37,67 +37,56 @@ loop-holds c =
       refl,
       dependencies-none book 64,
       unrecoverable-none book,
-      gathered-none book 16 257 5 refl refl,
       chained-none book 256 257 refl refl,
+      gathered-none book 16 256 refl refl,
     )
 
--- A turn, from the look-up of the entry on.
-abbrev entered : tie.In-loop Inv-loop μ-loop → tie.Start Inv-loop μ-loop
-entered c = c .before .before .before .before .before
+abbrev start-of : tie.In-loop Inv-loop μ-loop → tie.Start Inv-loop μ-loop
+start-of c = c .before .before .before .before .before
 
 -- The entry is in the log.
-inside : (c : tie.In-loop Inv-loop μ-loop) → Readable (entered c .args .book .now) × (c .before .loop .i < word (entered c .args .book .now) 0)
+inside : (c : tie.In-loop Inv-loop μ-loop) → Readable (start-of c .args .book .now) × (c .before .loop .i < word (start-of c .args .book .now) 0)
 inside c =
-    let start = entered c in
+    let start = start-of c in
     (readable (start .args .book .now) (start .pre .1) (start .pre .2) (start .pre .0), omega (arith, c .loop-test .taken, c .before .before .before .entry-count .ensures))
 
-latest-requires : tie.Need-latest-requires Inv-loop μ-loop
-latest-requires c κs = let l = inside (c .before .before) in (l .0, l .1, c .before .before .before .loop .inv .5)
-
-blocking-requires : tie.Need-blocking-requires Inv-loop μ-loop
-blocking-requires c κs =
-    let found = c .before .before in
-    let turn = found .before .before .before in
+enter-requires : tie.Need-enter-requires Inv-loop μ-loop
+enter-requires c κs =
+    let turn = c .before .before .before .before in
     let l = inside turn in
-    (l .0, l .1, found .latest .ensures, turn .before .loop .inv .4)
+    (l .0, l .1, turn .before .loop .inv .4, turn .before .loop .inv .5)
 
-abbrev turned : tie.After-wide Inv-loop μ-loop → tie.In-loop Inv-loop μ-loop
-turned c = c .before .before .before .before .before .before .before .before
+abbrev turned : tie.After-enter Inv-loop μ-loop → tie.In-loop Inv-loop μ-loop
+turned c = c .before .before .before .before .before
 
-requester-below : (c : tie.After-wide Inv-loop μ-loop) → c .wide .result < 64
-requester-below c = omega (arith, c .wide .ensures, c .before .read .ensures .live)
+entry-transaction-requires : tie.Need-entry-transaction-requires Inv-loop μ-loop
+entry-transaction-requires c κs = let l = inside (turned c) in (l .0 .words, omega (arith, l .1, l .0 .entries))
 
-chain-requires : tie.Need-chain-requires Inv-loop μ-loop
-chain-requires c κs =
-    let turn = turned (c .before .before .before .before) in
+-- The requester is the entry's transaction.
+requester : (c : tie.After-wide Inv-loop μ-loop)
+    → (c .wide .result ≡ transactionAt (start-of (turned (c .before .before)) .args .book .now) (turned (c .before .before) .before .loop .i)) × (c .wide .result < 64)
+requester c =
+    let turn = turned (c .before .before) in
     let l = inside turn in
-    (l .0, l .1, turn .before .loop .inv .5)
-
-gather-requires : tie.Need-gather-requires Inv-loop μ-loop
-gather-requires c κs =
-    let asked = c .before .before .before .before .before .before .before in
-    let turn = turned asked in
-    let l = inside turn in
-    (l .0, l .1, asked .before .before .before .before .before .latest .ensures, turn .before .loop .inv .4)
-
-abbrev asked : tie.After-gather Inv-loop μ-loop → tie.After-wide Inv-loop μ-loop
-asked c = c .before .before .before .before .before .before .before .before
+    let e = c .wide .ensures ∙ c .before .entry-transaction .ensures in
+    (e, omega (arith, e, l .0 .transactions (turn .before .loop .i) (l .1)))
 
 loop-again : tie.Need-loop-again Inv-loop μ-loop
 loop-again c =
-    let book = entered (turned (asked c)) .args .book .now in
-    let at-loop = turned (asked c) .before .loop in
-    let joined = c .before .before .before .before .before .before in
-    let read = asked c .before in
-    let found = read .before .blocking in
+    let asked = c .before .before in
+    let entered = asked .before .before in
+    let turn = turned entered in
+    let book = start-of turn .args .book .now in
+    let at-loop = turn .before .loop in
+    let found = entered .enter .ensures in
     let l : length (at-loop .dependencies) ≡ 64 = at-loop .inv .1 in (
-      omega (arith, inside (turned (asked c)) .1),
+      omega (arith, inside turn .1),
       simp length-set l,
-      dependencies-more book (at-loop .dependencies) (at-loop .i) (asked c .wide .result) _ _ (asked c .wide .ensures ∙ read .read .ensures .of-transaction)
-          (omega (arith, requester-below (asked c))) (at-loop .inv .2) (found .ensures .conflictings) (joined .before .join .ensures),
-      unrecoverable-more book (at-loop .i) _ _ _ (at-loop .inv .3) (found .ensures .unrecoverables) (joined .join2 .ensures),
-      c .gather .ensures,
-      c .before .before .before .chain .ensures,
+      dependencies-more book (at-loop .dependencies) (at-loop .i) (asked .wide .result) _ _ (requester asked .0) (omega (arith, requester asked .1)) (at-loop .inv .2)
+          (found .0 .conflictings) (c .before .join .ensures),
+      unrecoverable-more book (at-loop .i) _ _ _ (at-loop .inv .3) (found .0 .unrecoverables) (c .join2 .ensures),
+      found .1,
+      found .2,
     )
 
 returns-2 : tie.Need-returns-2 Inv-loop μ-loop
@@ -117,19 +106,16 @@ conflicts-spec =
     entry-count-requires
     returns
     loop-holds
-    latest-requires
-    blocking-requires
-    (λ c κs. inside (c .before .before .before .before .before .before))
+    enter-requires
+    entry-transaction-requires
     (λ c κs. tt)
-    (λ c. omega (arith, requester-below c))
-    (λ c. requester-below c)
+    (λ c. omega (arith, requester c .1))
+    (λ c. requester c .1)
     (λ c κs. tt)
-    (λ c. omega (arith, requester-below (c .before)))
-    (λ c. requester-below (c .before))
+    (λ c. omega (arith, requester (c .before) .1))
+    (λ c. requester (c .before) .1)
     (λ c κs. tt)
-    chain-requires
-    gather-requires
-    (λ c. omega (arith, inside (turned (asked c)) .1, inside (turned (asked c)) .0 .entries))
-    (λ c. omega (arith, inside (turned (asked c)) .1))
+    (λ c. let l = inside (turned (c .before .before .before .before)) in omega (arith, l .1, l .0 .entries))
+    (λ c. omega (arith, inside (turned (c .before .before .before .before)) .1))
     loop-again
     returns-2)

@@ -1,16 +1,33 @@
--- `dependencies::gather`: entry i's owner is put into the row of its object, and into that of the entries like it.
+-- `dependencies::gather`: entry i's owner is put into the row of its object, and into that of the entry which represents it.
+use Prim.Native.Nat.{_<_}
 use native.Mathlib.Omega.{arith}
 use borrow.Author.Needs.{needs}
 use Rattle.dependencies.specs.Laws.Rows.{gathered-more}
 use Rattle.dependencies.proofs.gather.Statement.{statement}
 use Rattle.dependencies.proofs.gather.Tie as tie
 
+below : (start : tie.Start) → start .args .at < 256
+below start = omega (arith, start .pre .0 .entries, start .pre .1, start .pre .2 .within)
+
+add-owner-requires : tie.Need-add-owner-requires
+add-owner-requires c κs =
+    let read = c .before .read .ensures in
+    (c .before .before .before .pre .3 .onObject _ (read .within) .columns, read .numbered, read .live)
+
+add-owner-requires-2 : tie.Need-add-owner-requires-2
+add-owner-requires-2 c κs =
+    let asked = c .before .before .before in
+    let read = asked .read .ensures in
+    let start = asked .before .before in
+    (start .pre .3 .represented _ (below start) (start .pre .2 .first) .columns, read .numbered, read .live)
+
 returns : tie.Need-returns
 returns c =
-    let read = c .before .before .before .before in
-    let start = read .before .before in
+    let added = c .before .before in
+    let asked = added .before .before in
+    let start = asked .before .before in
     gathered-more (start .args .book .now) (start .args .i) (start .args .whole .now) (start .args .same .now) (start .pre .3) _ _ _ (start .args .at) _ _
-    (read .read .ensures) (omega (arith, start .pre .0 .entries, start .pre .1)) (start .pre .2) (c .before .before .with-owner .ensures) (c .with-owner2 .ensures)
+    (asked .read .ensures) (below start) (start .pre .2) (added .add-owner .ensures) (c .add-owner2 .ensures)
 
 pub gather-spec : {M : Type 1} → statement M
 gather-spec =
@@ -19,13 +36,8 @@ gather-spec =
     (λ c κs. search needs)
     (λ c. search needs)
     (λ c. search needs)
-    (λ c κs. search needs)
+    add-owner-requires
     (λ c. search needs)
     (λ c. search needs)
-    (λ c. search needs)
-    (λ c. search needs)
-    (λ c κs. search needs)
-    (λ c. search needs)
-    (λ c. search needs)
-    (λ c. search needs)
+    add-owner-requires-2
     returns)

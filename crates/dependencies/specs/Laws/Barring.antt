@@ -14,7 +14,7 @@ use Rattle.operations.specs.Laws.Cases
 use Rattle.bitset.specs.Bitset.{has, Members, Holds, Represents}
 use Rattle.pairs.specs.Pairs.{Numbered, kindNumbered, columnOf, widthOf}
 use Rattle.store.specs.Layout.{word, operationAt}
-use Rattle.dependencies.specs.Dependencies.{transactionAt, objectAt, numberAt, keyAt, Readable, Bars, Barred, Picked, Owned, EntryRead, On, Alike, Gathered, Latest}
+use Rattle.dependencies.specs.Dependencies.{transactionAt, objectAt, numberAt, keyAt, Readable, Bars, Barred, Picked, Owned, EntryRead, On, Alike, Representative, Gathered}
 use Rattle.dependencies.specs.Laws.Sets.{holds-same, holds-without}
 use Rattle.dependencies.specs.Laws.Numbers.{ranged, placed, picked-of, picked-from}
 use Rattle.dependencies.specs.Laws.Rows.{row-alike}
@@ -101,12 +101,13 @@ module _ (w : List ℕ) (readable : Readable w) where
         (λ b. (picked-bars b, bars-picked b))
 
   pub barred : (i : ℕ) → i < word w 0 → (whole same : List (List ℕ)) → Gathered w i whole same → (t o number p u v u′ v′ : ℕ) → EntryRead w i t o number
-      → Latest (Alike w i) i p
+      → Representative w i p
       → Holds u (Picked recoverableRules number (getD whole o []) (getD same p []) (widthOf number))
       → Holds v (Picked commutingRules number (getD whole o []) (getD same p []) (widthOf number))
       → Members u′ (λ b. has u b && not (eqb b t)) → Members v′ (λ b. has v b && not (eqb b t)) → Barred w i u′ v′
-  barred i l whole same g t o number p u v u′ v′ read latest picked-u picked-v without-u without-v =
-      let barring = bars i l (getD whole (objectAt w i) []) (getD same p []) (g .onObject (objectAt w i) (readable .objects i l)) (row-alike w i whole same g p latest) in
+  barred i l whole same g t o number p u v u′ v′ read by picked-u picked-v without-u without-v =
+      let barring = bars i l (getD whole (objectAt w i) []) (getD same p []) (g .onObject (objectAt w i) (readable .objects i l) .sets)
+      (row-alike w i whole same g p (omega (arith, by .within, readable .entries)) by) in
       record {
         unrecoverables = barring recoverableRules u u′ (rw (read .of-object, read .of-number) at picked-u) (rw (read .of-transaction) at without-u);
         conflictings = barring commutingRules v v′ (rw (read .of-object, read .of-number) at picked-v) (rw (read .of-transaction) at without-v);

@@ -7,7 +7,7 @@ use mathlib.Core.List.{List}
 use native.Mathlib.Omega.{arith}
 use borrow.Author.Tests.{eqb-true, eq-eqb}
 use lib.Dec.{eqb}
-use lib.ListN.{getD, set, length, replicate}
+use lib.ListN.{getD, set, length, replicate, length-set}
 use lib.Seq.{getD-set-same, getD-set-other}
 use Rattle.operations.specs.Laws.Cases.{split, same}
 use Rattle.bitset.specs.Bitset.{has, Members, Holds, Represents}
@@ -83,8 +83,11 @@ represents-join R Q row t s u r q l m a =
     (holds-same (R a) (λ b. R a b ⊎ ((t ≡ a) × Q b)) (getD row a 0) (r a)
     (λ b. (inl, ⊎-elim (λ x. x) (λ x. absurd (e (sym (x .0))))))))
 
-pub with-owner : (row : List ℕ) (m t s u : ℕ) → m < length row → Members s (λ b. eqb b t) → Members u (λ b. has (getD row m 0) b || has s b)
+pub with-owner : (row : List ℕ) (m t s u : ℕ) → length row ≡ 5 → m < 5 → Members s (λ b. eqb b t) → Members u (λ b. has (getD row m 0) b || has s b)
     → WithOwner row m t (set row m u)
-with-owner row m t s u l single joined =
-    represents-join (λ n b. has (getD row n 0) b ≡ true) (λ b. t ≡ b) row m s u (λ n b. (λ e. e, λ e. e))
-    (λ b. (λ e. sym (eqb-true b t (sym (single b) ∙ e)), λ e. single b ∙ eq-eqb b t (sym e))) l joined
+with-owner row m t s u columns l single joined =
+    record {
+      columns = length-set row m u ∙ columns;
+      sets = represents-join (λ n b. has (getD row n 0) b ≡ true) (λ b. t ≡ b) row m s u (λ n b. (λ e. e, λ e. e))
+          (λ b. (λ e. sym (eqb-true b t (sym (single b) ∙ e)), λ e. single b ∙ eq-eqb b t (sym e))) (omega arith) joined;
+    }

@@ -1,12 +1,12 @@
--- `dependencies::latest`: the way back along the chain of entry i.
+-- `dependencies::find`: the way back along the chain of entry i.
 use Prim.Native.Nat.{_<_}
 use mathlib.Core.Path.{sym, _∙_}
 use mathlib.Core.Bool.{true≢false}
 use native.Mathlib.Omega.{arith}
 use borrow.Author.Needs.{needs}
 use Rattle.dependencies.specs.Laws.Chains.{Way, way-start, way-back, way-down, way-found, way-end}
-use Rattle.dependencies.proofs.latest.Statement.{statement}
-use Rattle.dependencies.proofs.latest.Tie as tie
+use Rattle.dependencies.proofs.find.Statement.{statement}
+use Rattle.dependencies.proofs.find.Tie as tie
 
 abbrev Inv-loop : tie.InvT-loop
 Inv-loop book i heads links at₀ at = Way book i at
@@ -53,8 +53,8 @@ returns-2 c =
     let args = c .before .before .before .before .before .args in
     way-end (args .book .now) (args .i) _ (c .loop-test .left) (c .before .loop .inv)
 
-pub latest-spec : {M : Type 1} → statement M
-latest-spec =
+pub find-spec : {M : Type 1} → statement M
+find-spec =
     tie.close
     (tie.spec
     Inv-loop

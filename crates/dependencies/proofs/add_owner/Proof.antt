@@ -1,4 +1,4 @@
--- `dependencies::with_owner`: the set at the operation's place gets the owner.
+-- `dependencies::add_owner`: the set at the operation's column gets the owner.
 use Prim.Native.Nat.{ℕ, _<_}
 use mathlib.Core.Path.{_≡_, subst}
 use native.Mathlib.Omega.{arith}
@@ -8,11 +8,11 @@ use Rattle.pairs.specs.Pairs.{columnOf}
 use Rattle.dependencies.specs.Dependencies.{WithOwner}
 use Rattle.dependencies.specs.Laws.Sets.{with-owner}
 use Rattle.dependencies.specs.Laws.Numbers.{ranged}
-use Rattle.dependencies.proofs.with_owner.Statement.{statement}
-use Rattle.dependencies.proofs.with_owner.Tie as tie
+use Rattle.dependencies.proofs.add_owner.Statement.{statement}
+use Rattle.dependencies.proofs.add_owner.Tie as tie
 
 sub-wide : tie.Need-sub-wide
-sub-wide c = omega (arith, c .first .ensures, ranged (c .before .args .number) (c .before .pre .0) .least)
+sub-wide c = omega (arith, c .first .ensures, ranged (c .before .args .number) (c .before .pre .1) .least)
 
 column : (c : tie.After-wide) → c .wide .result ≡ columnOf (c .before .before .args .number)
 column c = omega (arith, c .wide .ensures, c .before .first .ensures)
@@ -20,19 +20,19 @@ column c = omega (arith, c .wide .ensures, c .before .first .ensures)
 inside : (c : tie.After-wide) → c .wide .result < 5
 inside c =
     let start = c .before .before in
-    let r = ranged (start .args .number) (start .pre .0) in
+    let r = ranged (start .args .number) (start .pre .1) in
     omega (arith, column c, r .most, r .width)
 
 returns : tie.Need-returns
 returns c =
-    let asked = c .before .before in
+    let asked = c .before .before .before in
     let start = asked .before .before in
-    subst (λ (m : ℕ). WithOwner (start .args .row) m (start .args .owner) (set (start .args .row) (asked .wide .result) (c .join .result))) (column asked)
-    (with-owner (start .args .row) (asked .wide .result) _ _ _ (omega (arith, inside asked, start .good .0 .1 .0 .1)) (c .before .single .ensures)
-    (c .join .ensures))
+    let row = start .args .row .now in
+    subst (λ (m : ℕ). WithOwner row m (start .args .owner) (set row (asked .wide .result) (c .join .result))) (column asked)
+    (with-owner row (asked .wide .result) _ _ _ (start .pre .0) (inside asked) (c .before .single .ensures) (c .join .ensures))
 
-pub with-owner-spec : {M : Type 1} → statement M
-with-owner-spec =
+pub add-owner-spec : {M : Type 1} → statement M
+add-owner-spec =
     tie.close
     (tie.spec
     (λ c κs. search needs)
@@ -43,5 +43,5 @@ with-owner-spec =
     (λ c κs. search needs)
     (λ c κs. search needs)
     (λ c. search needs)
-    (λ c. inside (c .before .before))
+    (λ c. inside (c .before .before .before))
     returns)
