@@ -1,12 +1,12 @@
 -- One object: ranges, the form of its rows, and its words.
-use Prim.Native.Nat.{ℕ, _≤_}
+use Prim.Native.Nat.{ℕ, _+_, _*_, _≤_}
 use mathlib.Core.Path.{_≡_}
 use mathlib.Core.Option.{some}
-use mathlib.Core.List.{List, _∷_}
+use mathlib.Core.List.{List, [], _∷_, _++_, map}
 use lib.ListN.{length, drop}
 use Rattle.operations.specs.Operations.{Kind, Row, reduceKey, All, KeyReduced, Ascending, WellFormed}
+use Rattle.replay.specs.Replay.{rowOf}
 use Rattle.store.specs.Layout.{word, tabulate, joined, padded, rowWords, readKind, objectStart, rowsAt}
-use Rattle.layout.specs.Rows.{rowIn}
 
 -- A kind and a number of rows that an object may have.
 pub record InRange (k n : ℕ) : Type 0 where
@@ -26,6 +26,21 @@ Formed w o = (kind : Kind) → readKind (word w (objectStart o)) ≡ some kind �
 abbrev pub wordsOf : ℕ → List Row → List ℕ
 wordsOf kind rows = kind ∷ length rows ∷ padded 128 (joined rowWords rows)
 
--- The rows of the object that the words start with.
+-- ---- The object that a part starts with
+
+-- Its rows, as pairs of words and as rows.
+abbrev pub pairsIn : List ℕ → List (List ℕ)
+pairsIn w = tabulate (word w 1) (λ i. word w (2 + 2 * i) ∷ word w (3 + 2 * i) ∷ [])
+
 abbrev pub rowsIn : List ℕ → List Row
-rowsIn w = tabulate (word w 1) (rowIn (drop 2 w))
+rowsIn w = map rowOf (pairsIn w)
+
+-- The part with other rows in the object.
+abbrev pub withRows : List ℕ → List Row → List ℕ
+withRows w rows = wordsOf (word w 0) rows ++ drop 130 w
+
+-- At most 64 rows, and zeros past them.
+pub record StartsPacked (w : List ℕ) : Type 0 where
+  pub long : 130 ≤ length w
+  pub rows : word w 1 ≤ 64
+  pub words : w ≡ withRows w (rowsIn w)

@@ -4,17 +4,17 @@ ghost use mathlib.Core.Path.{_≡_};
 ghost use mathlib.Core.Bool.{true};
 ghost use mathlib.Core.Logic.{_↔_};
 ghost use mathlib.Core.Option.{some};
-ghost use mathlib.Core.List.{_++_, map};
-ghost use Prim.Native.Nat.{ℕ, _*_, _<_, _≤_};
-ghost use lib.ListN.{length, drop};
+ghost use mathlib.Core.List.{[], _∷_, _++_};
+ghost use Prim.Native.Nat.{ℕ, _-_, _<_, _≤_};
+ghost use lib.ListN.{length, take};
 ghost use Rattle.operations.specs.Operations as model;
-ghost use Rattle.operations.specs.Operations.{All, NoValue};
+ghost use Rattle.operations.specs.Operations.{row, All, NoValue, present as Present, inserted as Inserted, deleted as Deleted, modified as Modified};
 ghost use Rattle.operations.specs.Stored.{operationOf};
-ghost use Rattle.replay.specs.Replay.{rowOf, nextOf};
-ghost use Rattle.store.specs.Layout.{Packed, ObjectPacked, base, decode, encode, word, joined, rowWords, rowsAt};
+ghost use Rattle.replay.specs.Replay.{nextOf, positionOf, putAt, removedAt};
+ghost use Rattle.store.specs.Layout.{Packed, ObjectPacked, base, decode, encode, word, rowsAt};
 ghost use Rattle.store.specs.Soundness.{RowsFormed};
 ghost use Rattle.store.specs.Steps.{folded};
-ghost use Rattle.objects.specs.Objects.{InRange, Keyed, Formed, wordsOf, rowsIn};
+ghost use Rattle.objects.specs.Objects.{InRange, Keyed, Formed, StartsPacked, rowsIn, withRows};
 
 // A kind and a number of rows that an object may have.
 fn is_in_range(kind: u32, count: usize) -> bool
@@ -56,37 +56,36 @@ pub fn packed(book: &[u32]) -> bool
     true
 }
 
-// The second word of each row is 0.
+// The second word of each row is 0. No early way out, so that many words are taken at once.
 fn has_no_values(book: &[u32], object: usize) -> bool
     requires { ⌜ (length (now book) ≡ 3937) × (object < 16) × ObjectPacked (now book) object ⌝ }
     ensures { λ r. ⌜ (r ≡ true) ↔ All NoValue (rowsAt (now (book .entry)) object) ⌝ }
 {
     let rows = layout::FIRST_OBJECT + layout::OBJECT * object + 2;
     let count = layout::row_count(book, object);
+    let mut seen: u32 = 0;
     for i in 0..count {
-        if book[rows + 2 * i + 1] != 0 {
-            return false;
-        }
+        seen = seen | book[rows + 2 * i + 1];
     }
-    true
+    seen == 0
 }
 
-// The keys are reduced and strictly ascend: each is at least one more than the key before it.
+// The keys are reduced and strictly ascend: none falls short of the next, and the last is reduced.
 fn is_keyed(book: &[u32], object: usize) -> bool
     requires { ⌜ (length (now book) ≡ 3937) × (object < 16) × ObjectPacked (now book) object ⌝ }
     ensures { λ r. ⌜ (r ≡ true) ↔ Keyed (rowsAt (now (book .entry)) object) ⌝ }
 {
     let rows = layout::FIRST_OBJECT + layout::OBJECT * object + 2;
     let count = layout::row_count(book, object);
-    let mut least: u32 = 0;
-    for i in 0..count {
-        let key = book[rows + 2 * i];
-        if key < least || key >= layout::KEYS {
-            return false;
-        }
-        least = key + 1;
+    if count == 0 {
+        return true;
     }
-    true
+    let last = count - 1;
+    let mut falling = false;
+    for i in 0..last {
+        falling = falling | (book[rows + 2 * i + 2] <= book[rows + 2 * i]);
+    }
+    !falling && book[rows + 2 * last] < layout::KEYS
 }
 
 // The rows are of the form of the object's kind.
@@ -116,40 +115,139 @@ pub fn formed(book: &[u32]) -> bool
     true
 }
 
-// Writes rows at the part's front, two words a row.
-fn write_rows(part: &mut [u32], rows: &[[u32; 2]])
-    requires { ⌜ 2 * length (now rows) ≤ length (now part) ⌝ }
-    ensures { λ r. ⌜ now (part .exit) ≡ joined rowWords (map rowOf (now (rows .entry))) ++ drop (2 * length (now (rows .entry))) (now (part .entry)) ⌝ }
+// The place of the first key that is not below `key`, or the number of rows.
+fn position(part: &[u32], key: u32) -> usize
+    requires { ⌜ StartsPacked (now part) ⌝ }
+    ensures { λ r. ⌜ r ≡ positionOf key (rowsIn (now (part .entry))) ⌝ }
 {
-    for i in 0..rows.len() {
-        part[2 * i] = rows[i][0];
-        part[2 * i + 1] = rows[i][1];
+    let count = layout::wide(part[1]);
+    let mut at: usize = 0;
+    while at < count {
+        if part[2 + 2 * at] >= key {
+            return at;
+        }
+        at += 1;
+    }
+    at
+}
+
+// Whether a row has the key, whose position is given.
+fn present(part: &[u32], at: usize, key: u32) -> bool
+    requires { ⌜ StartsPacked (now part) × (at ≡ positionOf key (rowsIn (now part))) ⌝ }
+    ensures { λ r. ⌜ r ≡ Present key (rowsIn (now (part .entry))) ⌝ }
+{
+    if at < layout::wide(part[1]) {
+        return part[2 + 2 * at] == key;
+    }
+    false
+}
+
+// Puts a row in at a place; the row there and those after it move up.
+fn open_at(part: &mut [u32], at: usize, key: u32, value: u32)
+    requires { ⌜ StartsPacked (now part) × (at ≤ word (now part) 1) × (word (now part) 1 < 64) ⌝ }
+    ensures { λ r. ⌜ now (part .exit) ≡ withRows (now (part .entry)) (putAt at (row key value) (rowsIn (now (part .entry)))) ⌝ }
+{
+    let count = layout::wide(part[1]);
+    let mut carried_key = key;
+    let mut carried_value = value;
+    let mut i = at;
+    while i < count {
+        let next_key = part[2 + 2 * i];
+        let next_value = part[3 + 2 * i];
+        part[2 + 2 * i] = carried_key;
+        part[3 + 2 * i] = carried_value;
+        carried_key = next_key;
+        carried_value = next_value;
+        i += 1;
+    }
+    part[2 + 2 * count] = carried_key;
+    part[3 + 2 * count] = carried_value;
+    part[1] = (count + 1) as u32;
+}
+
+// Leaves out the row at a place; those after it move down, and the last row's words become 0.
+fn close_at(part: &mut [u32], at: usize)
+    requires { ⌜ StartsPacked (now part) × (at < word (now part) 1) ⌝ }
+    ensures { λ r. ⌜ now (part .exit) ≡ withRows (now (part .entry)) (removedAt at (rowsIn (now (part .entry)))) ⌝ }
+{
+    let last = layout::wide(part[1]) - 1;
+    let mut i = at;
+    while i < last {
+        let next_key = part[4 + 2 * i];
+        let next_value = part[5 + 2 * i];
+        part[2 + 2 * i] = next_key;
+        part[3 + 2 * i] = next_value;
+        i += 1;
+    }
+    part[2 + 2 * last] = 0;
+    part[3 + 2 * last] = 0;
+    part[1] = last as u32;
+}
+
+fn push(part: &mut [u32], item: u32)
+    requires { ⌜ StartsPacked (now part) × (word (now part) 1 < 64) ⌝ }
+    ensures { λ r. ⌜ now (part .exit) ≡ withRows (now (part .entry)) (rowsIn (now (part .entry)) ++ (row item 0 ∷ [])) ⌝ }
+{
+    let count = layout::wide(part[1]);
+    open_at(part, count, item, 0);
+}
+
+fn pop(part: &mut [u32])
+    requires { ⌜ StartsPacked (now part) ⌝ }
+    ensures { λ r. ⌜ now (part .exit) ≡ withRows (now (part .entry)) (take (length (rowsIn (now (part .entry))) - 1) (rowsIn (now (part .entry)))) ⌝ }
+{
+    let count = layout::wide(part[1]);
+    if count > 0 {
+        close_at(part, count - 1);
     }
 }
 
-// Gives the object that the part starts with other rows; the words past them become 0.
-fn write_object(part: &mut [u32], rows: &[[u32; 2]])
-    requires { ⌜ (130 ≤ length (now part)) × (length (now rows) ≤ 64) ⌝ }
-    ensures { λ r. ⌜ now (part .exit) ≡ wordsOf (word (now (part .entry)) 0) (map rowOf (now (rows .entry))) ++ drop 130 (now (part .entry)) ⌝ }
+fn insert(part: &mut [u32], key: u32, value: u32)
+    requires { ⌜ StartsPacked (now part) × (length (Inserted key value (rowsIn (now part))) ≤ 64) ⌝ }
+    ensures { λ r. ⌜ now (part .exit) ≡ withRows (now (part .entry)) (Inserted key value (rowsIn (now (part .entry)))) ⌝ }
 {
-    let count = rows.len();
-    part[1] = count as u32;
-    write_rows(&mut part[2..], rows);
-    let free = 2 + 2 * count;
-    layout::clear(&mut part[free..layout::OBJECT]);
+    let at = position(part, key);
+    if !present(part, at, key) {
+        open_at(part, at, key, value);
+    }
 }
 
-// Folds an operation into the object that the part starts with.
-fn fold_part(part: &mut [u32], operation: Operation)
-    requires { ⌜ (130 ≤ length (now part)) × (word (now part) 1 ≤ 64) × (length (nextOf operation (rowsIn (now part))) ≤ 64) ⌝ }
-    ensures { λ r. ⌜ now (part .exit) ≡ wordsOf (word (now (part .entry)) 0) (nextOf operation (rowsIn (now (part .entry)))) ++ drop 130 (now (part .entry)) ⌝ }
+fn delete(part: &mut [u32], key: u32)
+    requires { ⌜ StartsPacked (now part) ⌝ }
+    ensures { λ r. ⌜ now (part .exit) ≡ withRows (now (part .entry)) (Deleted key (rowsIn (now (part .entry)))) ⌝ }
 {
-    let count = layout::wide(part[1]);
-    let rows = layout::copied(&part[2..], count);
-    let at = replay::place(&rows, count, operation);
-    let next = replay::next_count(&rows, count, at, operation);
-    let rows = replay::next_rows(rows, count, at, operation);
-    write_object(part, &rows[..next]);
+    let at = position(part, key);
+    if present(part, at, key) {
+        close_at(part, at);
+    }
+}
+
+fn modify(part: &mut [u32], key: u32, value: u32)
+    requires { ⌜ StartsPacked (now part) ⌝ }
+    ensures { λ r. ⌜ now (part .exit) ≡ withRows (now (part .entry)) (Modified key value (rowsIn (now (part .entry)))) ⌝ }
+{
+    let at = position(part, key);
+    if present(part, at, key) {
+        part[3 + 2 * at] = value;
+    }
+}
+
+// Folds an operation into the object that the part starts with: only the words that differ are written.
+fn fold_part(part: &mut [u32], operation: Operation)
+    requires { ⌜ StartsPacked (now part) × (length (nextOf operation (rowsIn (now part))) ≤ 64) ⌝ }
+    ensures { λ r. ⌜ now (part .exit) ≡ withRows (now (part .entry)) (nextOf operation (rowsIn (now (part .entry)))) ⌝ }
+{
+    let number = operation.number;
+    let key = operation.key;
+    match number {
+        1 => push(part, key),
+        2 => pop(part),
+        4 => insert(part, key, 0),
+        5 | 8 => delete(part, key),
+        7 => insert(part, key, operation.value),
+        11 => modify(part, key, operation.value),
+        _ => {}
+    }
 }
 
 // Folds an operation into an object. No word before the object's is lent.

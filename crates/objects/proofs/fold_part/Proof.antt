@@ -1,72 +1,102 @@
--- `objects::fold_part`: the rows are copied, replayed and written back.
-use Prim.Native.Nat.{ℕ, _≤_}
+-- `objects::fold_part`: each arm is its operation; every other number changes nothing.
+use Prim.Native.Nat.{ℕ}
 use mathlib.Core.Path.{_≡_, sym, ap, _∙_}
-use mathlib.Core.List.{List, _++_}
-use native.Mathlib.Omega.{arith}
+use mathlib.Core.Logic.{inl, inr}
+use mathlib.Core.List.{List}
 use borrow.Author.Needs.{needs}
-use lib.ListN.{length, drop}
-use lib.Seq.{length-take-le}
 use Rattle.operations.specs.Operations.{Row}
-use Rattle.replay.specs.Replay.{rowsOf, nextOf}
-use Rattle.store.specs.Layout.{word}
-use Rattle.objects.specs.Objects.{wordsOf, rowsIn}
-use Rattle.objects.specs.Laws.Folding.{copy-holds, next-fits, next-holds}
+use Rattle.operations.specs.declared.Operation.{Operation}
+use Rattle.replay.specs.Replay.{nextOf}
+use Rattle.replay.specs.Laws.Numbers.{next-push, next-pop, next-set-insert, next-table-insert, next-delete, next-modify, next-same}
+use Rattle.objects.specs.Objects.{rowsIn, withRows}
+use Rattle.objects.specs.Laws.Writing.{kept, push-room}
 use Rattle.objects.proofs.fold_part.Statement.{statement}
 use Rattle.objects.proofs.fold_part.Tie as tie
 
-abbrev start : tie.After-copied → tie.Start
-start c = c .before .before .before .before .before .before
+abbrev part : tie.Start → List ℕ
+part s = s .args .part .now
 
-abbrev count : tie.After-copied → ℕ
-count c = c .before .before .before .wide .result
+abbrev asked : tie.Start → Operation
+asked s = s .args .operation
 
-copied : (c : tie.After-copied) → rowsOf (c .copied .result) (count c) ≡ rowsIn (start c .args .part .now)
-copied c = copy-holds (start c .args .part .now) (count c) (c .copied .result) (c .before .before .before .wide .ensures) (c .copied .ensures)
+push-requires : tie.Need-push-requires
+push-requires c κs =
+    let s = c .before .before .before in
+    (s .pre .0, push-room (part s) (asked s) (c .before .match .keys1) (s .pre .1))
 
-room : (c : tie.After-copied) → length (nextOf (start c .args .operation) (rowsOf (c .copied .result) (count c))) ≤ 64
-room c = next-fits (start c .args .operation) (c .copied .result) (count c) _ (copied c) (start c .pre .2)
+insert-requires : tie.Need-insert-requires
+insert-requires c κs =
+    let s = c .before .before .before in
+    (s .pre .0, rw (next-set-insert (asked s) (rowsIn (part s)) (c .before .match .keys3)) at (s .pre .1))
 
-within : (c : tie.After-next-rows) → (c .before .next-count .result ≤ 64) × (length (c .next-rows .result) ≡ 64)
-within c = (omega (arith, c .before .next-count .ensures, room (c .before .before .before .before .before)), c .next-rows .ok .1 .0 .1)
+insert-requires-2 : tie.Need-insert-requires-2
+insert-requires-2 c κs =
+    let s = c .before .before .before in
+    (s .pre .0, rw (next-table-insert (asked s) (rowsIn (part s)) (c .before .match .keys5)) at (s .pre .1))
 
-next-rows-requires : tie.Need-next-rows-requires
-next-rows-requires c κs = (search needs, room (c .before .before .before .before), c .before .before .place .ensures)
-
-array-share-prefix-rows : tie.Need-array-share-prefix-rows
-array-share-prefix-rows c = omega (arith, within (c .before))
-
-slice-aggregate-write-object : tie.Need-slice-aggregate-write-object
-slice-aggregate-write-object c = sym (length-take-le _ _ (omega (arith, within (c .before .before))))
-
-write-object-requires : tie.Need-write-object-requires
-write-object-requires c κs =
-    (start (c .before .before .before .before .before .before .before) .pre .0, omega (arith, slice-aggregate-write-object c, within (c .before .before)))
+-- The rows of an arm are the next rows.
+answered : (s : tie.Start) (after : List ℕ) (rs : List Row) → after ≡ withRows (part s) rs → nextOf (asked s) (rowsIn (part s)) ≡ rs
+    → after ≡ withRows (part s) (nextOf (asked s) (rowsIn (part s)))
+answered s after rs e next = e ∙ ap (withRows (part s)) (sym next)
 
 returns : tie.Need-returns
 returns c =
-    let at-copied = c .before .before .before .before .before .before .before .before .before .before in
-    let part = start at-copied .args .part .now in
-    let operation = start at-copied .args .operation in
-    c .before .before .write-object .ensures
-    ∙ ap (λ (rs : List Row). wordsOf (word part 0) rs ++ drop 130 part)
-    (next-holds operation (at-copied .copied .result) (count at-copied) _ (copied at-copied) _ _ (c .before .before .before .before .before .before .next-count .ensures)
-    (c .before .before .before .before .before .next-rows .ensures))
+    let arm = c .before .before .before .before in
+    answered (arm .before .before) _ _ (c .before .before .push .ensures) (next-push _ _ (arm .match .keys1))
+
+returns-2 : tie.Need-returns-2
+returns-2 c =
+    let arm = c .before .before .before .before in
+    answered (arm .before .before) _ _ (c .before .before .pop .ensures) (next-pop _ _ (arm .match .keys2))
+
+returns-3 : tie.Need-returns-3
+returns-3 c =
+    let arm = c .before .before .before .before in
+    answered (arm .before .before) _ _ (c .before .before .insert .ensures) (next-set-insert _ _ (arm .match .keys3))
+
+returns-4 : tie.Need-returns-4
+returns-4 c =
+    let arm = c .before .before .before .before in
+    answered (arm .before .before) _ _ (c .before .before .delete .ensures) (next-delete _ _ (arm .match .keys4))
+
+returns-5 : tie.Need-returns-5
+returns-5 c =
+    let arm = c .before .before .before .before in
+    answered (arm .before .before) _ _ (c .before .before .insert2 .ensures) (next-table-insert _ _ (arm .match .keys5))
+
+returns-6 : tie.Need-returns-6
+returns-6 c =
+    let arm = c .before .before .before .before in
+    answered (arm .before .before) _ _ (c .before .before .modify .ensures) (next-modify _ _ (arm .match .keys6))
+
+returns-7 : tie.Need-returns-7
+returns-7 c =
+    let s = c .before .before in
+    let rest = c .match .rest in
+    let n58 = rest .0 .0 .1 in
+    kept (part s) _ (s .pre .0)
+    (next-same (asked s) (rowsIn (part s)) (rest .0 .0 .0 .0 .0 .1) (rest .0 .0 .0 .0 .1) (rest .0 .0 .0 .1) (λ e. n58 (inl e)) (rest .0 .1) (λ e. n58 (inr e)) (rest .1))
 
 pub fold-part-spec : {M : Type 1} → statement M
 fold-part-spec =
     tie.close
     (tie.spec
-    (λ c. search needs)
+    push-requires
+    (λ c κs. search needs)
+    insert-requires
+    (λ c κs. search needs)
+    insert-requires-2
     (λ c κs. search needs)
     (λ c. search needs)
+    returns
     (λ c. search needs)
+    returns-2
     (λ c. search needs)
-    (λ c κs. search needs)
-    (λ c κs. search needs)
-    (λ c κs. search needs)
-    next-rows-requires
-    array-share-prefix-rows
-    slice-aggregate-write-object
-    write-object-requires
+    returns-3
     (λ c. search needs)
-    returns)
+    returns-4
+    (λ c. search needs)
+    returns-5
+    (λ c. search needs)
+    returns-6
+    returns-7)

@@ -1,41 +1,61 @@
--- `objects::is_keyed`: what is left of the scan decides the whole.
-use mathlib.Core.Path.{refl}
-use Prim.Native.Nat.{_+_, _-_, _≤_}
-use mathlib.Core.Logic.{inl, inr, ⊎-elim}
+-- `objects::is_keyed`: whether a key that the loop has passed is not below the next.
+use Prim.Native.Nat.{ℕ, suc, _+_, _-_, _≤_}
+use mathlib.Core.Path.{_≡_, refl, ap}
 use native.Mathlib.Omega.{arith}
 use borrow.Author.Needs.{needs}
-use borrow.Author.Tests.{leb-true, leb-false}
+use borrow.Author.Tests.{not-true, not-false}
+use Rattle.operations.specs.Operations.{Row}
 use Rattle.operations.specs.Laws.Cases.{yes, no}
 use Rattle.store.specs.Layout.{word, objectStart, rowAt}
-use Rattle.objects.specs.Laws.Rows.{Decides, decides-start, decides-next, decides-no, decides-all}
+use Rattle.objects.specs.Laws.Rows.{Tells, keyed-none, tells-start, tells-next, keyed-last, keyed-no}
 use Rattle.objects.proofs.is_keyed.Statement.{statement}
 use Rattle.objects.proofs.is_keyed.Tie as tie
 
 abbrev Inv-loop : tie.InvT-loop
-Inv-loop book object rows count least₀ i₀ least i = (i ≤ count) × Decides (word book (objectStart object + 1)) (rowAt book object) i least
+Inv-loop book object rows count last falling₀ i₀ falling i = (i ≤ last) × Tells (rowAt book object) i falling
 
 abbrev μ-loop : tie.MeasureT-loop
-μ-loop book object rows count least₀ i₀ least i = count - i
+μ-loop book object rows count last falling₀ i₀ falling i = last - i
 
-loop-holds : tie.Need-loop-holds Inv-loop μ-loop
-loop-holds c = (search needs, decides-start _ _)
+abbrev start : tie.At-loop Inv-loop μ-loop → tie.Start Inv-loop μ-loop
+start c = c .before .before .before .before
+
+abbrev rows : tie.At-loop Inv-loop μ-loop → ℕ → Row
+rows c = rowAt (start c .args .book .now) (start c .args .object)
+
+abbrev last : tie.At-loop Inv-loop μ-loop → ℕ
+last c = c .before .before .row-count .result - 1
+
+size : (c : tie.At-loop Inv-loop μ-loop) → word (start c .args .book .now) (objectStart (start c .args .object) + 1) ≡ suc (last c)
+size c = omega (arith, c .before .before .row-count .ensures)
 
 returns : tie.Need-returns Inv-loop μ-loop
 returns c =
-    let at-loop = c .before .before .before in
-    no refl (decides-no _ _ (at-loop .loop .i) _ (omega (arith, c .before .before .loop-test .taken, at-loop .before .row-count .ensures))
-    (⊎-elim (λ w. inl (w .taken)) (λ w. inr (omega (arith, leb-true))) (c .if1 .came)) (at-loop .loop .inv .1))
+    let args = c .before .before .before .args in
+    yes refl (keyed-none (rowAt (args .book .now) (args .object)) _ (omega (arith, c .before .row-count .ensures)))
 
-add-least : tie.Need-add-least Inv-loop μ-loop
-add-least c = omega (arith, leb-false)
+loop-holds : tie.Need-loop-holds Inv-loop μ-loop
+loop-holds c =
+    let args = c .before .before .before .args in
+    (search needs, tells-start (rowAt (args .book .now) (args .object)))
 
 loop-again : tie.Need-loop-again Inv-loop μ-loop
 loop-again c =
-    let at-loop = c .before .before .before .before in
-    (search needs, decides-next _ _ (at-loop .loop .i) _ (omega (arith, c .before .before .before .loop-test .taken, at-loop .before .row-count .ensures)) (c .before .if1 .left) (omega (arith, leb-false)) (at-loop .loop .inv .1))
+    let at-loop = c .before .before .before in
+    (search needs, tells-next (rows at-loop) (at-loop .loop .i) _ (at-loop .loop .falling) (ap (word (start at-loop .args .book .now)) (omega arith)) (at-loop .loop .inv .1))
 
 returns-2 : tie.Need-returns-2 Inv-loop μ-loop
-returns-2 c = yes refl (decides-all _ _ (c .before .loop .i) _ (omega (arith, c .loop-test .left, c .before .before .row-count .ensures)) (c .before .loop .inv .1))
+returns-2 c =
+    let at-loop = c .before .before .before in
+    keyed-last (rows at-loop) _ (last at-loop) (at-loop .loop .i) (size at-loop) (omega (arith, at-loop .loop .inv .0)) _ (at-loop .loop .inv .1)
+    (not-true _ (c .before .if2 .taken))
+
+returns-3 : tie.Need-returns-3 Inv-loop μ-loop
+returns-3 c =
+    let at-loop = c .before .before in
+    no (c .if2 .left)
+    (keyed-no (rows at-loop) _ (last at-loop) (at-loop .loop .i) (size at-loop) (omega (arith, at-loop .loop .inv .0)) _ (at-loop .loop .inv .1)
+    (not-false _ (c .if2 .left)))
 
 pub is-keyed-spec : {M : Type 1} → statement M
 is-keyed-spec =
@@ -47,14 +67,24 @@ is-keyed-spec =
     (λ c. search needs)
     (λ c. search needs)
     (λ c κs. search needs)
+    returns
+    (λ c. search needs)
     loop-holds
     (λ c. search needs)
     (λ c. search needs)
     (λ c. search needs)
     (λ c. search needs)
-    returns
-    add-least
+    (λ c. search needs)
+    (λ c. search needs)
+    (λ c. search needs)
+    (λ c. search needs)
+    (λ c. search needs)
     (λ c. search needs)
     (λ c. search needs)
     loop-again
-    returns-2)
+    (λ c. search needs)
+    (λ c. search needs)
+    (λ c. search needs)
+    (λ c. search needs)
+    returns-2
+    returns-3)

@@ -1,42 +1,68 @@
 -- An operation folded into an object: on the part that starts with it, and on the book.
 use Prim.Native.Nat.{ℕ, zero, suc, _+_, _-_, _*_, _≤_, _<_}
-use mathlib.Core.Path.{_≡_, sym, ap, ap₂, _∙_, subst}
+use mathlib.Core.Path.{_≡_, refl, sym, ap, ap₂, _∙_, subst}
 use mathlib.Core.Option.{Option, some}
 use mathlib.Core.List.{List, [], _∷_, _++_, map, append-assoc, append-nil}
 use native.Mathlib.Nat.{not-suc-le-zero, add-zero, mul-zero, mul-suc}
 use native.Mathlib.Omega.{arith}
 use borrow.Rule.Slice.PartMut.{putMid}
-use lib.ListN.{length, set, take, drop, length-take, length-drop, length-map, drop-of-length-le}
-use lib.Seq.{take-append-le, drop-append-le, take-append-add, drop-append-add, drop-at, getD-drop, drop-drop}
+use lib.ListN.{length, set, take, drop, take-append-drop, length-take, length-drop, length-map, drop-of-length-le, List·getD-map}
+use lib.Seq.{ext-getD, length-take-le, take-append-le, drop-append-le, take-append-add, drop-append-add, drop-at, getD-take, getD-drop}
 use Rattle.operations.specs.Operations as model
-use Rattle.operations.specs.Operations.{Row, next}
+use Rattle.operations.specs.Operations.{Row, row, next}
 use Rattle.operations.specs.declared.Operation.{Operation}
 use Rattle.operations.specs.Stored.{operationOf}
-use Rattle.replay.specs.Replay.{rowsOf, nextBy, nextOf}
+use Rattle.replay.specs.Replay.{rowOf, nextBy, nextOf}
 use Rattle.store.specs.Store.{Object, Store, objectOf}
-use Rattle.store.specs.Layout.{word, tabulate, joined, padded, statusWord, kindWord, entryWords, encode, decode, base, readKind, objectStart, rowsAt, objectWords, Packed, Representable}
+use Rattle.store.specs.Layout.{word, tabulate, joined, padded, statusWord, kindWord, rowWords, entryWords, encode, decode, base, readKind, objectStart, rowAt, rowsAt, objectWords, Packed, Representable}
 use Rattle.store.specs.Steps.{carried, folded}
 use Rattle.store.specs.Theorems.{encoded, representable}
 use Rattle.store.specs.Laws.Reading.{object-read}
-use Rattle.store.specs.Laws.Words.{Rows, joined-length}
-use Rattle.store.specs.Laws.Objects.{kind-written, objects-rows}
-use Rattle.layout.specs.Rows.{rowIn}
-use Rattle.layout.specs.Laws.{tail-part, rows-from}
-use Rattle.objects.specs.Objects.{wordsOf, rowsIn}
+use Rattle.store.specs.Laws.Lists.{length-tabulate, getD-tabulate, tabulate-same}
+use Rattle.store.specs.Laws.Words.{Rows, each, tabulate-list, joined-length, padded-length, padded-same}
+use Rattle.store.specs.Laws.Objects.{kind-written, rows-length, objects-rows}
+use Rattle.layout.specs.Laws.{tail-part}
+use Rattle.objects.specs.Objects.{wordsOf, pairsIn, rowsIn, withRows, StartsPacked}
+use Rattle.objects.specs.Laws.Writing.{rows-count}
 
--- ---- The part
+-- ---- The object that a part starts with
 
-pub copy-holds : (w : List ℕ) (n : ℕ) (copy : List (List ℕ)) → n ≡ word w 1 → rowsOf copy n ≡ tabulate n (rowIn (take (length w - 2) (drop 2 w)))
-    → rowsOf copy n ≡ rowsIn w
-copy-holds w n copy e c = c ∙ ap₂ (λ (m : ℕ) (part : List ℕ). tabulate m (rowIn part)) e (tail-part w 2)
+rows-tabulated : (w : List ℕ) → tabulate (word w 1) (λ i. row (word w (2 + 2 * i)) (word w (3 + 2 * i))) ≡ rowsIn w
+rows-tabulated w =
+    tabulate-list (rowsIn w) (rowOf []) (word w 1) _ (rows-count w)
+    (λ i l. sym (List·getD-map rowOf (pairsIn w) i [] ∙ ap rowOf (getD-tabulate (word w 1) _ i [] l)))
 
-module _ (o : Operation) (copy : List (List ℕ)) (n : ℕ) (rs : List Row) (holds : rowsOf copy n ≡ rs) where
-  pub next-fits : length (nextOf o rs) ≤ 64 → length (nextOf o (rowsOf copy n)) ≤ 64
-  next-fits l = subst (λ (q : List Row). length (nextOf o q) ≤ 64) (sym holds) l
+module _ (w : List ℕ) (long : 130 ≤ length w) (few : word w 1 ≤ 64) (unused : (i : ℕ) → 2 * word w 1 ≤ i → i < 128 → word w (2 + i) ≡ 0) where
+  abbrev rows : List Row
+  rows = tabulate (word w 1) (λ i. row (word w (2 + 2 * i)) (word w (3 + 2 * i)))
 
-  pub next-holds : (after : List (List ℕ)) (next : ℕ) → next ≡ length (nextOf o (rowsOf copy n))
-      → rowsOf after (length (nextOf o (rowsOf copy n))) ≡ nextOf o (rowsOf copy n) → rowsOf after next ≡ nextOf o rs
-  next-holds after next e h = ap (rowsOf after) e ∙ h ∙ ap (nextOf o) holds
+  count : length rows ≡ word w 1
+  count = length-tabulate (word w 1) _
+
+  rows-words : (p : ℕ) → p < 128 → word (padded 128 (joined rowWords rows)) p ≡ word w (2 + p)
+  rows-words =
+      padded-same rowWords 2 128 (word w 1) _ (λ (p : ℕ). word w (2 + p)) (λ i l. refl)
+      (λ i j l. each (λ (j : ℕ). word (rowWords (row (word w (2 + 2 * i)) (word w (3 + 2 * i)))) j ≡ word w (2 + (2 * i + j))) 2
+      (ap (word w) (omega arith), (ap (word w) (omega arith), tt)) j)
+      unused
+
+  front : (i : ℕ) → i < 130 → word w i ≡ word (wordsOf (word w 0) rows) i
+  front zero l = refl
+  front (suc zero) l = sym count
+  front (suc (suc p)) l = let e : suc (suc p) ≡ 2 + p = omega arith in ap (word w) e ∙ sym (rows-words p (omega arith))
+
+  starts-packed : StartsPacked w
+  starts-packed =
+      let size : length (take 130 w) ≡ 130 = length-take-le 130 w long in
+      let fits : length (joined rowWords rows) ≤ 128 = omega (arith, rows-length rows, count) in
+      let whole : take 130 w ≡ wordsOf (word w 0) rows =
+      ext-getD 0 (take 130 w) (wordsOf (word w 0) rows) (omega (arith, size, padded-length 128 (joined rowWords rows) fits))
+      (λ i l. getD-take 130 w i 0 (omega (arith, size)) ∙ front i (omega (arith, size))) in
+      record {
+        long = long;
+        rows = few;
+        words = sym (take-append-drop 130 w) ∙ ap (λ (v : List ℕ). v ++ drop 130 w) whole ∙ ap (withRows w) (rows-tabulated w);
+      }
 
 -- ---- The object in the book
 
@@ -50,17 +76,19 @@ module _ (w : List ℕ) (o : ℕ) where
 
   part-rows : rowsIn partAt ≡ rowsAt w o
   part-rows =
-      ap₂ (λ (n : ℕ) (l : List ℕ). tabulate n (rowIn l)) (part-word 1) (ap (drop 2) (tail-part w (objectStart o)) ∙ drop-drop 2 (objectStart o) w)
-      ∙ rows-from w o (word w (objectStart o + 1))
+      sym (rows-tabulated partAt) ∙ ap (λ (n : ℕ). tabulate n (λ i. row (word partAt (2 + 2 * i)) (word partAt (3 + 2 * i)))) (part-word 1)
+      ∙ tabulate-same (word w (objectStart o + 1)) _ (rowAt w o)
+      (λ i l. ap₂ row (part-word (2 + 2 * i) ∙ ap (word w) (omega arith)) (part-word (3 + 2 * i) ∙ ap (word w) (omega arith)))
 
   module _ (packed : Packed base w) (l : o < 16) where
     pub part-ready : (operation : Operation) → length (nextOf operation (rowsAt w o)) ≤ 64
-        → (130 ≤ length partAt) × (word partAt 1 ≤ 64) × (length (nextOf operation (rowsIn partAt)) ≤ 64)
-    part-ready operation room = (
-      simp (length-take, length-drop) (omega (arith, packed .words)),
-      subst (λ (n : ℕ). n ≤ 64) (sym (part-word 1)) (packed .objects o l .rows),
-      subst (λ (rs : List Row). length (nextOf operation rs) ≤ 64) (sym part-rows) room,
-    )
+        → StartsPacked partAt × (length (nextOf operation (rowsIn partAt)) ≤ 64)
+    part-ready operation room =
+        let own = packed .objects o l in (
+          starts-packed partAt (simp (length-take, length-drop) (omega (arith, packed .words))) (rw (part-word 1) (own .rows))
+              (λ i m n. part-word (2 + i) ∙ ap (word w) (omega arith) ∙ own .unused i (omega (arith, part-word 1)) n),
+          subst (λ (rs : List Row). length (nextOf operation rs) ≤ 64) (sym part-rows) room,
+        )
 
 -- ---- Words put into a list
 
@@ -119,7 +147,7 @@ module _ (w : List ℕ) (packed : Packed base w) (object : ℕ) (l : object < 16
       in
       ap₂ wordsOf kind rows ∙ ap (λ (x : Object). objectWords (carried o x)) (sym (object-read base w object l))
 
-  pub book-folded : (part : List ℕ) → part ≡ wordsOf (word (partAt w object) 0) (nextOf operation (rowsIn (partAt w object))) ++ drop 130 (partAt w object)
+  pub book-folded : (part : List ℕ) → part ≡ withRows (partAt w object) (nextOf operation (rowsIn (partAt w object)))
       → putMid (objectStart object) (length w - objectStart object) w part ≡ encode base (folded object o (decode base w))
   book-folded part e =
       let start = objectStart object in

@@ -1,76 +1,93 @@
--- The form of an object's rows, by what is tested: each row, its neighbour and the kind.
-use Prim.Native.Nat.{ℕ, _+_, _≤_, _<_}
-use mathlib.Core.Path.{_≡_, ap, sym, _∙_, subst}
-use mathlib.Core.Logic.{_⊎_, ⊎-elim, _↔_, Iff·trans}
+-- The form of an object's rows, by what is tested: their second words, neighbouring keys and the kind.
+use Prim.Native.Nat.{ℕ, zero, suc, _+_, _≤_, _<_}
+use mathlib.Core.Path.{_≡_, refl, ap, sym, _∙_, subst}
+use mathlib.Core.Bool.{Bool, true, false, true≢false, _||_}
+use mathlib.Core.Logic.{_↔_, Iff·trans}
 use mathlib.Core.Option.{some, Option·none-ne-some}
-use mathlib.Core.List.{List, [], _∷_}
+use mathlib.Core.List.{List}
+use native.Mathlib.Nat.{not-suc-le-zero}
 use native.Mathlib.Omega.{arith}
-use lib.ListN.{drop}
-use Rattle.operations.specs.Operations.{Kind, Stack, Set, Table, Row, reduceKey, All, NoValue, WellFormed}
-use Rattle.operations.specs.Laws.Cases.{all-map}
+use borrow.Author.Count.{below-none, below-more}
+use borrow.Author.Tests.{ltb-true, lt-ltb, leb-false, lt-leb}
+use lib.Bits.{bitOr}
+use lib.Dec.{eqb, leb, ltb}
+use Rattle.operations.specs.Operations.{Kind, Stack, Set, Table, Row, reduceKey, All, NoValue, KeyReduced, WellFormed}
 use Rattle.operations.specs.Laws.Storing.{reduced-below}
 use Rattle.store.specs.Store.{Object}
 use Rattle.store.specs.Layout.{word, tabulate, base, decode, readKind, objectStart, rowsAt, ObjectPacked}
 use Rattle.store.specs.Soundness.{RowsFormed}
-use Rattle.store.specs.Laws.Lists.{drop-tabulate, drop-past}
-use Rattle.store.specs.Laws.Words.{all-any}
+use Rattle.store.specs.Laws.Lists.{tabulate-zero, length-tabulate, getD-tabulate, getD-past, all-each, all-of}
+use Rattle.store.specs.Laws.Words.{below}
 use Rattle.store.specs.Laws.Reading.{object-read, kind-below}
+use Rattle.layout.specs.Laws.{Seen, seen-next, seen-all}
 use Rattle.objects.specs.Objects.{Keyed, Formed}
 
--- ---- Neighbours
-
--- Keys from a least one on: each is reduced, and at least one more than the key before it.
-abbrev Rising : ℕ → List Row → Type 0
-Rising least [] = Unit {0}
-Rising least (r ∷ rs) = (least ≤ r .key) × (r .key < 16_777_216) × Rising (r .key + 1) rs
-
-abbrev AtLeast : ℕ → Row → Type 0
-AtLeast least r = least ≤ r .key
-
-abbrev Above : ℕ → Row → Type 0
-Above k r = k < r .key
-
-rising-least : (least : ℕ) (rs : List Row) → Rising least rs → All (AtLeast least) rs
-rising-least least [] p = tt
-rising-least least (r ∷ rs) p =
-    (p .0, all-map {P = AtLeast (r .key + 1)} {Q = AtLeast least} (λ q h. omega (arith, p .0)) rs (rising-least (r .key + 1) rs (p .2)))
-
-rising-keyed : (least : ℕ) (rs : List Row) → Rising least rs → Keyed rs
-rising-keyed least [] p = (tt, tt)
-rising-keyed least (r ∷ rs) p =
-    let rest = rising-keyed (r .key + 1) rs (p .2) in
-    let above = all-map {P = AtLeast (r .key + 1)} {Q = Above (r .key)} (λ q h. omega arith) rs (rising-least (r .key + 1) rs (p .2)) in
-    ((reduced-below (r .key) .0 (p .1), rest .0), (above, rest .1))
-
-keyed-rising : (least : ℕ) (rs : List Row) → All (AtLeast least) rs → Keyed rs → Rising least rs
-keyed-rising least [] a k = tt
-keyed-rising least (r ∷ rs) a k =
-    let above = all-map {P = Above (r .key)} {Q = AtLeast (r .key + 1)} (λ q h. omega arith) rs (k .1 .0) in
-    (a .0, reduced-below (r .key) .1 (k .0 .0), keyed-rising (r .key + 1) rs above (k .0 .1, k .1 .1))
-
--- ---- The scan of the keys: what is left of it decides the whole
+-- ---- Second words: their union is 0 exactly where each is
 
 module _ (n : ℕ) (f : ℕ → Row) where
-  abbrev pub Decides : ℕ → ℕ → Type 0
-  Decides i least = Rising least (drop i (tabulate n f)) ↔ Keyed (tabulate n f)
+  abbrev pub values : List ℕ
+  values = tabulate n (λ i. f i .value)
 
-  pub decides-start : Decides 0 0
-  decides-start = (
-    rising-keyed 0 (tabulate n f),
-    keyed-rising 0 (tabulate n f) (all-any (AtLeast 0) (λ r. omega arith) (tabulate n f)),
-  )
+  pub values-next : (i seen : ℕ) → i < n → Seen values i seen → Seen values (i + 1) (bitOr seen (f i .value))
+  values-next i seen l s = subst (λ (v : ℕ). Seen values (i + 1) (bitOr seen v)) (getD-tabulate n (λ j. f j .value) i 0 l) (seen-next values i seen s)
 
-  pub decides-next : (i least : ℕ) → i < n → least ≤ f i .key → f i .key < 16_777_216 → Decides i least → Decides (i + 1) (f i .key + 1)
-  decides-next i least l p q d =
-      (λ r. d .0 (subst (Rising least) (sym (drop-tabulate n f i l)) (p, q, r)), λ k. subst (Rising least) (drop-tabulate n f i l) (d .1 k) .2)
+  pub values-all : (i seen : ℕ) → n ≤ i → Seen values i seen → (eqb seen 0 ≡ true) ↔ All NoValue (tabulate n f)
+  values-all i seen l s =
+      let both = seen-all values i seen (rw length-tabulate l) s in (
+        λ e. all-of NoValue n f (λ j m. sym (getD-tabulate n (λ k. f k .value) j 0 m) ∙ both .0 e j),
+        λ a. both .1 (λ j. below j n (λ m. getD-tabulate n (λ k. f k .value) j 0 m ∙ all-each NoValue n f a j m) (getD-past n (λ k. f k .value) j 0)),
+      )
 
-  pub decides-no : (i least : ℕ) → i < n → (f i .key < least) ⊎ (16_777_216 ≤ f i .key) → Decides i least → Keyed (tabulate n f) → ⊥
-  decides-no i least l wrong d k =
-      let rising = subst (Rising least) (drop-tabulate n f i l) (d .1 k) in
-      ⊎-elim (λ (low : f i .key < least). omega (arith, rising .0)) (λ (high : 16_777_216 ≤ f i .key). omega (arith, rising .1)) wrong
+-- ---- Keys: each below the next, and the last reduced
 
-  pub decides-all : (i least : ℕ) → n ≤ i → Decides i least → Keyed (tabulate n f)
-  decides-all i least l d = d .0 (rw (drop-past n f i l) tt)
+-- The first i keys are each below the next.
+abbrev pub Rising : (ℕ → Row) → ℕ → Type 0
+Rising f i = (j : ℕ) → j < i → f j .key < f (suc j) .key
+
+rising-first : (f : ℕ → Row) (n : ℕ) → Rising f n → (j : ℕ) → j < n → f 0 .key < f (suc j) .key
+rising-first f n r zero l = r 0 l
+rising-first f n r (suc j) l = omega (arith, rising-first f n r j (omega arith), r (suc j) l)
+
+rising-keyed : (n : ℕ) (f : ℕ → Row) → Rising f n → f n .key < 16_777_216 → Keyed (tabulate (suc n) f)
+unfolding tabulate
+rising-keyed zero f r l = ((reduced-below (f 0 .key) .0 l, tt), (tt, tt))
+rising-keyed (suc n) f r l =
+    let rest = rising-keyed n (λ i. f (suc i)) (λ j m. r (suc j) (omega arith)) l in
+    let above = rising-first f (suc n) r in
+    ((reduced-below (f 0 .key) .0 (omega (arith, above n (omega arith))), rest .0), (all-of (λ (q : Row). f 0 .key < q .key) (suc n) (λ i. f (suc i)) above, rest .1))
+
+keyed-rising : (n : ℕ) (f : ℕ → Row) → Keyed (tabulate (suc n) f) → Rising f n
+unfolding tabulate
+keyed-rising zero f k j l = absurd (not-suc-le-zero l)
+keyed-rising (suc n) f k zero l = k .1 .0 .0
+keyed-rising (suc n) f k (suc j) l = keyed-rising n (λ i. f (suc i)) (k .0 .1, k .1 .1) j (omega arith)
+
+-- Whether a key that the scan has passed is not below the next.
+module _ (f : ℕ → Row) where
+  abbrev pub Tells : ℕ → Bool → Type 0
+  Tells i falling = (falling ≡ false) ↔ Rising f i
+
+  pub tells-start : Tells 0 false
+  tells-start = (λ e. below-none _, λ r. refl)
+
+  pub tells-next : (i next : ℕ) (falling : Bool) → next ≡ f (suc i) .key → Tells i falling → Tells (i + 1) (falling || leb next (f i .key))
+  tells-next i next true e t = (λ q. absurd (true≢false q), λ r. t .1 (λ j l. r j (omega arith)))
+  tells-next i next false e t =
+      (λ q. below-more _ _ (t .0 refl) (omega (arith, leb-false next (f i .key) q)), λ r. lt-leb next (f i .key) (omega (arith, r i (omega arith))))
+
+  pub keyed-none : (n : ℕ) → n ≡ 0 → Keyed (tabulate n f)
+  keyed-none n e = rw (e, tabulate-zero f) (tt, tt)
+
+  module _ (n last i : ℕ) (size : n ≡ suc last) (passed : i ≡ last) (falling : Bool) (tells : Tells i falling) where
+    pub keyed-last : falling ≡ false → (ltb (f last .key) 16_777_216 ≡ true) ↔ Keyed (tabulate n f)
+    keyed-last e =
+        rw size (
+          λ q. rising-keyed last f (rw passed at (tells .0 e)) (ltb-true _ _ q),
+          λ k. lt-ltb _ _ (reduced-below (f last .key) .1 (all-each (KeyReduced reduceKey) (suc last) f (k .0) last (omega arith))),
+        )
+
+    pub keyed-no : falling ≡ true → Keyed (tabulate n f) → ⊥
+    keyed-no e k = true≢false (sym e ∙ tells .1 (rw passed (keyed-rising last f (rw size at k))))
 
 -- ---- By kind
 

@@ -1,106 +1,248 @@
--- Rows written as words, and the part of a book that an operation is folded into.
-use Prim.Native.Nat.{ℕ, _+_, _-_, _*_, _≤_, _<_}
+-- Rows changed in place, in the part of a book that starts with their object.
+use Prim.Native.Nat.{ℕ, zero, suc, _+_, _-_, _*_, _≤_, _<_}
 use mathlib.Core.Path.{_≡_, refl, sym, ap, ap₂, _∙_}
-use mathlib.Core.List.{List, [], _∷_, _++_, map, map-append, append-assoc, append-nil}
+use mathlib.Core.Bool.{true, false}
+use mathlib.Core.List.{List, [], _∷_, _++_, append-assoc}
+use native.Mathlib.Nat.{not-suc-le-zero}
 use native.Mathlib.Numerals.{add-one}
 use native.Mathlib.Omega.{arith}
-use borrow.Rule.Slice.PartMut.{midOf, putMid}
-use lib.ListN.{length, getD, set, take, drop, replicate, length-append, length-drop, length-map}
-use lib.Seq.{length-take-le, take-suc, take-length, drop-length, append-snoc, set-at, take-at, drop-at, drop-drop}
-use Rattle.operations.specs.Operations.{Row}
-use Rattle.replay.specs.Replay.{rowOf, rowsOf}
-use Rattle.store.specs.Laws.Words.{joined-append}
+use lib.ListN.{length, getD, set, take, drop, replicate, length-append, length-set, length-map, drop-of-length-le}
+use lib.Seq.{set-append-seam, set-split, set-getD, length-take-le, take-all}
+use Rattle.operations.specs.Operations.{Row, row, present, inserted, deleted, modified}
+use Rattle.operations.specs.declared.Operation.{Operation}
+use Rattle.replay.specs.Replay.{rowOf, nextOf, positionOf, putAt, removedAt}
+use Rattle.replay.specs.Laws.Lists.{put-next, put-last, removed-next, removed-last}
+use Rattle.replay.specs.Laws.Numbers.{next-push}
+use Rattle.replay.specs.Laws.Positions.{rowAt, there, absent, inserted-more}
 use Rattle.store.specs.Layout.{word, joined, rowWords}
+use Rattle.store.specs.Laws.Lists.{length-tabulate, getD-tabulate}
+use Rattle.store.specs.Laws.Words.{joined-append}
 use Rattle.store.specs.Laws.Objects.{rows-length}
-use Rattle.objects.specs.Objects.{wordsOf}
+use Rattle.objects.specs.Objects.{wordsOf, pairsIn, rowsIn, withRows, StartsPacked}
 
--- ---- Rows, one after the other
+-- ---- Rows as words, and others after them
 
-put-two : (front rest : List ℕ) (k a b : ℕ) → length front ≡ k → 2 ≤ length rest
-    → set (set (front ++ rest) k a) (k + 1) b ≡ front ++ (a ∷ b ∷ []) ++ drop 2 rest
-put-two front [] k a b e l = absurd (omega arith)
-put-two front (x ∷ []) k a b e l = absurd (omega arith)
-put-two front (x ∷ y ∷ ys) k a b e l =
-    ap (λ (w : List ℕ). set w (k + 1) b) (set-at front x (y ∷ ys) a k e ∙ sym (append-snoc front a (y ∷ ys)))
-    ∙ set-at (front ++ (a ∷ [])) y ys b (k + 1) (simp length-append (omega arith))
-    ∙ append-snoc front a (b ∷ ys) ∙ sym (append-assoc front (a ∷ b ∷ []) ys)
+pub pairs-count : (w : List ℕ) → length (pairsIn w) ≡ word w 1
+pairs-count w = length-tabulate (word w 1) _
 
--- The first i pairs stand at the front of the words.
-abbrev pub Written : List ℕ → List (List ℕ) → ℕ → List ℕ → Type 0
-Written part rows i now = now ≡ joined rowWords (rowsOf rows i) ++ drop (2 * i) part
+pub rows-count : (w : List ℕ) → length (rowsIn w) ≡ word w 1
+rows-count w = length-map (pairsIn w) rowOf ∙ pairs-count w
 
-pub written-start : (part : List ℕ) (rows : List (List ℕ)) → Written part rows 0 part
-written-start part rows = refl
+pub pair-key : (w : List ℕ) (i : ℕ) → i < word w 1 → getD (getD (pairsIn w) i []) 0 0 ≡ word w (2 + 2 * i)
+pair-key w i l = ap (λ (p : List ℕ). getD p 0 0) (getD-tabulate (word w 1) _ i [] l)
 
-module _ (part : List ℕ) (rows : List (List ℕ)) (i : ℕ) (l : i < length rows) (room : 2 * i + 2 ≤ length part) where
-  abbrev first : ℕ
-  first = getD (getD rows i []) 0 0
+rows-stored : (rs : List Row) (rest : List ℕ) (i k v : ℕ) → i < length rs
+    → set (set (joined rowWords rs ++ rest) (2 * i) k) (suc (2 * i)) v ≡ joined rowWords (set rs i (row k v)) ++ rest
+rows-stored [] rest i k v l = absurd (not-suc-le-zero l)
+rows-stored (r ∷ rs) rest zero k v l = refl
+rows-stored (r ∷ rs) rest (suc i) k v l =
+    let e : 2 * suc i ≡ suc (suc (2 * i)) = omega arith in
+    rw e (ap (λ (w : List ℕ). r .key ∷ r .value ∷ w) (rows-stored rs rest i k v (omega arith)))
 
-  abbrev second : ℕ
-  second = getD (getD rows i []) 1 0
+rows-read : (rs : List Row) (rest : List ℕ) (i : ℕ) → i < length rs
+    → (word (joined rowWords rs ++ rest) (2 * i) ≡ rowAt rs i .key) × (word (joined rowWords rs ++ rest) (suc (2 * i)) ≡ rowAt rs i .value)
+rows-read [] rest i l = absurd (not-suc-le-zero l)
+rows-read (r ∷ rs) rest zero l = (refl, refl)
+rows-read (r ∷ rs) rest (suc i) l =
+    let e : 2 * suc i ≡ suc (suc (2 * i)) = omega arith in
+    rw e (rows-read rs rest i (omega arith))
 
-  abbrev front : List ℕ
-  front = joined rowWords (rowsOf rows i)
+-- Kind, number of rows, rows, and what follows.
+abbrev pub laid : ℕ → ℕ → List Row → List ℕ → List ℕ
+laid kind n rs rest = kind ∷ n ∷ (joined rowWords rs ++ rest)
 
-  one-more : joined rowWords (rowsOf rows (i + 1)) ≡ front ++ (first ∷ second ∷ [])
-  one-more =
-      ap (λ (pairs : List (List ℕ)). joined rowWords (map rowOf pairs)) (ap (λ (n : ℕ). take n rows) (add-one i) ∙ take-suc rows i [] l)
-      ∙ ap (joined rowWords) (map-append rowOf (take i rows) (getD rows i [] ∷ []))
-      ∙ joined-append rowWords (rowsOf rows i) (rowOf (getD rows i []) ∷ [])
+module _ (kind n : ℕ) (rs : List Row) (rest : List ℕ) where
+  laid-snoc : (r : Row) → laid kind n (rs ++ (r ∷ [])) rest ≡ laid kind n rs (r .key ∷ r .value ∷ rest)
+  laid-snoc r =
+      ap (λ (w : List ℕ). kind ∷ n ∷ w)
+      (ap (λ (w : List ℕ). w ++ rest) (joined-append rowWords rs (r ∷ [])) ∙ append-assoc (joined rowWords rs) (rowWords r) rest)
 
-  front-length : length front ≡ 2 * i
-  front-length = rows-length (rowsOf rows i) ∙ ap (λ (n : ℕ). 2 * n) (length-map (take i rows) rowOf ∙ length-take-le i rows (omega arith))
+  module _ (i : ℕ) (l : i < length rs) where
+    two : 2 + 2 * i ≡ suc (suc (2 * i))
+    two = omega arith
 
-  pub written-next : (now : List ℕ) → Written part rows i now → Written part rows (i + 1) (set (set now (2 * i) first) (2 * i + 1) second)
-  written-next now e =
-      let more : 2 * i + 2 ≡ 2 * (i + 1) = omega arith in
-      ap (λ (w : List ℕ). set (set w (2 * i) first) (2 * i + 1) second) e
-      ∙ put-two front (drop (2 * i) part) (2 * i) first second front-length (rw length-drop (omega arith))
-      ∙ ap₂ (λ (w v : List ℕ). w ++ v) (sym one-more) (drop-drop 2 (2 * i) part ∙ ap (λ (k : ℕ). drop k part) more)
+    three : 3 + 2 * i ≡ suc (suc (suc (2 * i)))
+    three = omega arith
 
-pub written-all : (part : List ℕ) (rows : List (List ℕ)) (i : ℕ) (now : List ℕ) → i ≡ length rows → Written part rows i now
-    → now ≡ joined rowWords (map rowOf rows) ++ drop (2 * length rows) part
-written-all part rows i now e w =
-    w ∙ ap₂ (λ (n : ℕ) (pairs : List (List ℕ)). joined rowWords (map rowOf pairs) ++ drop (2 * n) part) e (ap (λ (n : ℕ). take n rows) e ∙ take-length rows)
+    laid-stored : (k v : ℕ) → set (set (laid kind n rs rest) (2 + 2 * i) k) (3 + 2 * i) v ≡ laid kind n (set rs i (row k v)) rest
+    laid-stored k v = rw (two, three) (ap (λ (w : List ℕ). kind ∷ n ∷ w) (rows-stored rs rest i k v l))
 
--- ---- An object, in the part that starts with it
+    laid-key : word (laid kind n rs rest) (2 + 2 * i) ≡ rowAt rs i .key
+    laid-key = rw two (rows-read rs rest i l .0)
 
--- The rows' number and the rows are written.
-pub counted-written : (w : List ℕ) (n : ℕ) (front part : List ℕ) → 2 ≤ length w → part ≡ front ++ drop (2 * n) (midOf 2 (length (set w 1 n) - 2) (set w 1 n))
-    → putMid 2 (length (set w 1 n) - 2) (set w 1 n) part ≡ (word w 0 ∷ n ∷ front) ++ drop (2 + 2 * n) w
-counted-written [] n front part l e = absurd (omega arith)
-counted-written (x ∷ []) n front part l e = absurd (omega arith)
-counted-written (x ∷ y ∷ w) n front part l e =
-    let size : length (x ∷ n ∷ w) - 2 ≡ length w = omega arith in
-    let whole : take (length (x ∷ n ∷ w) - 2) w ≡ w = ap (λ (k : ℕ). take k w) size ∙ take-length w in
-    let rest : drop (length (x ∷ n ∷ w) - 2) w ≡ [] = ap (λ (k : ℕ). drop k w) size ∙ drop-length w in
-    ap (λ (l : List ℕ). x ∷ n ∷ l)
-    (ap (λ (l : List ℕ). part ++ l) rest ∙ append-nil part ∙ e ∙ ap (λ (l : List ℕ). front ++ l) (ap (drop (2 * n)) whole ∙ drop-drop (2 * n) 2 (x ∷ y ∷ w)))
+    laid-value : word (laid kind n rs rest) (3 + 2 * i) ≡ rowAt rs i .value
+    laid-value = rw three (rows-read rs rest i l .1)
 
--- What is past the rows is cleared.
-module _ (w : List ℕ) (rows : List Row) (n : ℕ) (long : 130 ≤ length w) (count : length rows ≡ n) (fits : n ≤ 64) (now : List ℕ)
-    (written : now ≡ (word w 0 ∷ n ∷ joined rowWords rows) ++ drop (2 + 2 * n) w) where
-  abbrev free : ℕ
-  free = 2 + 2 * n
+-- The row past the last.
+laid-pushed : (kind n : ℕ) (rs : List Row) (rest : List ℕ) (x y k v : ℕ)
+    → set (set (laid kind n rs (x ∷ y ∷ rest)) (2 + 2 * length rs) k) (3 + 2 * length rs) v ≡ laid kind n (rs ++ (row k v ∷ [])) rest
+laid-pushed kind n rs rest x y k v =
+    ap (λ (w : List ℕ). set (set w (2 + 2 * length rs) k) (3 + 2 * length rs) v) (sym (laid-snoc kind n rs rest (row x y)))
+    ∙ laid-stored kind n (rs ++ (row x y ∷ [])) rest (length rs) (simp length-append (omega arith)) k v
+    ∙ ap (λ (q : List Row). laid kind n q rest) (set-append-seam rs (row x y) [] (row k v))
 
-  abbrev head : List ℕ
-  head = word w 0 ∷ n ∷ joined rowWords rows
+-- Zeros from the rows on to the object's end.
+abbrev zeros : ℕ → List ℕ → List ℕ
+zeros n rest = replicate (128 - 2 * n) 0 ++ rest
 
-  head-length : length head ≡ free
-  head-length = omega (arith, rows-length rows)
+object-laid : (kind : ℕ) (rs : List Row) (rest : List ℕ) (n : ℕ) → length rs ≡ n → wordsOf kind rs ++ rest ≡ laid kind n rs (zeros n rest)
+object-laid kind rs rest n e =
+    ap (λ (w : List ℕ). kind ∷ length rs ∷ w)
+    (append-assoc (joined rowWords rs) _ rest ∙ ap (λ (m : ℕ). joined rowWords rs ++ (replicate (128 - m) 0 ++ rest)) (rows-length rs))
+    ∙ ap (λ (m : ℕ). laid kind m rs (zeros m rest)) e
 
-  kept : drop free now ≡ drop free w
-  kept = ap (drop free) written ∙ drop-at head (drop free w) free head-length
+zeros-two : (n : ℕ) (rest : List ℕ) → n < 64 → zeros n rest ≡ 0 ∷ 0 ∷ zeros (n + 1) rest
+zeros-two n rest l =
+    let e : 128 - 2 * n ≡ suc (suc (128 - 2 * (n + 1))) = omega arith in
+    ap (λ (m : ℕ). replicate m 0 ++ rest) e
 
-  cleared-length : length (midOf free (130 - free) now) ≡ 130 - free
-  cleared-length = ap (λ (l : List ℕ). length (take (130 - free) l)) kept ∙ length-take-le (130 - free) (drop free w) (rw length-drop (omega arith))
+-- ---- Other rows, as many, in the object that w starts with
 
-  pub object-written : (part : List ℕ) → part ≡ replicate (length (midOf free (130 - free) now)) 0 → putMid free (130 - free) now part ≡ wordsOf (word w 0) rows ++ drop 130 w
-  object-written part e =
-      let front = joined rowWords rows in
-      let size : free + (130 - free) ≡ 130 = omega arith in
-      let left : 130 - free ≡ 128 - length front = omega (arith, rows-length rows) in
-      let zeros : part ≡ replicate (128 - length front) 0 = e ∙ ap (λ (k : ℕ). replicate k 0) (cleared-length ∙ left) in
-      let past : drop (130 - free) (drop free now) ≡ drop 130 w = ap (drop (130 - free)) kept ∙ drop-drop (130 - free) free w ∙ ap (λ (k : ℕ). drop k w) size in
-      ap₂ (λ (l r : List ℕ). l ++ r) (ap (take free) written ∙ take-at head (drop free w) free head-length) (ap₂ (λ (l r : List ℕ). l ++ r) zeros past)
-      ∙ ap₂ (λ (k : ℕ) (l : List ℕ). word w 0 ∷ k ∷ l) (sym count) (sym (append-assoc front (replicate (128 - length front) 0) (drop 130 w)))
+pub record Stands (w part : List ℕ) (rs : List Row) : Type 0 where
+  pub count : length rs ≡ word w 1
+  pub words : part ≡ laid (word w 0) (word w 1) rs (zeros (word w 1) (drop 130 w))
+
+pub stands-start : (w : List ℕ) → StartsPacked w → Stands w w (rowsIn w)
+stands-start w packed =
+    record {
+      count = rows-count w;
+      words = packed .words ∙ object-laid (word w 0) (rowsIn w) (drop 130 w) (word w 1) (rows-count w);
+    }
+
+module _ (w part : List ℕ) (rs : List Row) (s : Stands w part rs) where
+  pub stands-end : part ≡ withRows w rs
+  stands-end = s .words ∙ sym (object-laid (word w 0) rs (drop 130 w) (word w 1) (s .count))
+
+  module _ (i : ℕ) (l : i < word w 1) where
+    stands-stored : (k v : ℕ) → Stands w (set (set part (2 + 2 * i) k) (3 + 2 * i) v) (set rs i (row k v))
+    stands-stored k v =
+        record {
+          count = length-set rs i (row k v) ∙ s .count;
+          words = ap (λ (q : List ℕ). set (set q (2 + 2 * i) k) (3 + 2 * i) v) (s .words)
+              ∙ laid-stored (word w 0) (word w 1) rs (zeros (word w 1) (drop 130 w)) i (omega (arith, s .count)) k v;
+        }
+
+    stands-read : row (word part (2 + 2 * i)) (word part (3 + 2 * i)) ≡ rowAt rs i
+    stands-read =
+        let within : i < length rs = omega (arith, s .count) in
+        let rest = zeros (word w 1) (drop 130 w) in
+        ap (λ (q : List ℕ). row (word q (2 + 2 * i)) (word q (3 + 2 * i))) (s .words)
+        ∙ ap₂ row (laid-key (word w 0) (word w 1) rs rest i within) (laid-value (word w 0) (word w 1) rs rest i within)
+
+-- One row's second word.
+value-stored : (w : List ℕ) (i k v : ℕ) → StartsPacked w → i < word w 1 → rowAt (rowsIn w) i .key ≡ k
+    → set w (3 + 2 * i) v ≡ withRows w (set (rowsIn w) i (row k v))
+value-stored w i k v packed l e =
+    let start = stands-start w packed in
+    let same : word w (2 + 2 * i) ≡ k = ap (λ (r : Row). r .key) (stands-read w w (rowsIn w) start i l) ∙ e in
+    ap (λ (q : List ℕ). set q (3 + 2 * i) v) (sym (set-getD w (2 + 2 * i) 0) ∙ ap (set w (2 + 2 * i)) same)
+    ∙ stands-end w _ _ (stands-stored w w (rowsIn w) start i l k v)
+
+-- ---- A gap opened: the carried row, put in at i of the rows that stand, gives the rows that are to be
+
+abbrev pub Opening : List ℕ → List Row → List ℕ → ℕ → Row → Type 0
+Opening w target part i carried = (rs : List Row) × Stands w part rs × (putAt i carried rs ≡ target)
+
+pub opening-start : (w : List ℕ) (i : ℕ) (r : Row) → StartsPacked w → Opening w (putAt i r (rowsIn w)) w i r
+opening-start w i r packed = (rowsIn w, stands-start w packed, refl)
+
+module _ (w : List ℕ) (target : List Row) (part : List ℕ) (i k v : ℕ) (opening : Opening w target part i (row k v)) where
+  pub opening-next : i < word w 1 → Opening w target (set (set part (2 + 2 * i) k) (3 + 2 * i) v) (i + 1) (row (word part (2 + 2 * i)) (word part (3 + 2 * i)))
+  opening-next l =
+      let rs = opening .0 in
+      let s = opening .1 in
+      let within : i < length rs = omega (arith, s .count) in
+      (set rs i (row k v), stands-stored w part rs s i l k v, rw (add-one, stands-read w part rs s i l) (put-next rs i (row k v) (row 0 0) within ∙ opening .2))
+
+  pub opening-end : (n : ℕ) → n ≡ word w 1 → i ≡ n → n < 64 → set (set (set part (2 + 2 * n) k) (3 + 2 * n) v) 1 (n + 1) ≡ withRows w target
+  opening-end n size at l =
+      let rs = opening .0 in
+      let s = opening .1 in
+      let kind = word w 0 in
+      let rest = drop 130 w in
+      let count : length rs ≡ n = s .count ∙ sym size in
+      let words : part ≡ laid kind n rs (0 ∷ 0 ∷ zeros (n + 1) rest) =
+      s .words ∙ ap (λ (m : ℕ). laid kind m rs (zeros m rest)) (sym size) ∙ ap (laid kind n rs) (zeros-two n rest l) in
+      let rows : rs ++ (row k v ∷ []) ≡ target = sym (put-last rs (row k v)) ∙ ap (λ (m : ℕ). putAt m (row k v) rs) (count ∙ sym at) ∙ opening .2 in
+      let more : length target ≡ n + 1 = ap length (sym rows) ∙ length-append rs (row k v ∷ []) ∙ ap (λ (m : ℕ). m + 1) count in
+      ap (λ (q : List ℕ). set (set (set q (2 + 2 * n) k) (3 + 2 * n) v) 1 (n + 1)) words
+      ∙ ap (λ (m : ℕ). set (set (set (laid kind n rs (0 ∷ 0 ∷ zeros (n + 1) rest)) (2 + 2 * m) k) (3 + 2 * m) v) 1 (n + 1)) (sym count)
+      ∙ ap (λ (q : List ℕ). set q 1 (n + 1)) (laid-pushed kind n rs (zeros (n + 1) rest) 0 0 k v)
+      ∙ ap (λ (q : List Row). laid kind (n + 1) q (zeros (n + 1) rest)) rows
+      ∙ sym (object-laid kind target rest (n + 1) more)
+
+-- ---- A gap closed: leaving out row i of those that stand gives the rows that are to be
+
+abbrev pub Closing : List ℕ → List Row → List ℕ → ℕ → Type 0
+Closing w target part i = (rs : List Row) × Stands w part rs × (removedAt i rs ≡ target)
+
+pub closing-start : (w : List ℕ) (i : ℕ) → StartsPacked w → Closing w (removedAt i (rowsIn w)) w i
+closing-start w i packed = (rowsIn w, stands-start w packed, refl)
+
+module _ (w : List ℕ) (target : List Row) (part : List ℕ) (i : ℕ) (closing : Closing w target part i) where
+  pub closing-next : i + 1 < word w 1 → Closing w target (set (set part (2 + 2 * i) (word part (4 + 2 * i))) (3 + 2 * i) (word part (5 + 2 * i))) (i + 1)
+  closing-next l =
+      let rs = closing .0 in
+      let s = closing .1 in
+      let next : row (word part (4 + 2 * i)) (word part (5 + 2 * i)) ≡ rowAt rs (suc i) =
+      ap₂ (λ (a b : ℕ). row (word part a) (word part b)) (omega arith) (omega arith) ∙ stands-read w part rs s (i + 1) l ∙ ap (rowAt rs) (add-one i) in (
+        set rs i (row (word part (4 + 2 * i)) (word part (5 + 2 * i))),
+        stands-stored w part rs s i (omega arith) _ _,
+        rw (add-one, next) (removed-next rs i (row 0 0) (omega (arith, s .count)) ∙ closing .2),
+      )
+
+  pub closing-end : (last : ℕ) → i ≡ last → last + 1 ≡ word w 1 → word w 1 ≤ 64 → set (set (set part (2 + 2 * last) 0) (3 + 2 * last) 0) 1 last ≡ withRows w target
+  closing-end last at size l =
+      let rs = closing .0 in
+      let s = closing .1 in
+      let kind = word w 0 in
+      let rest = drop 130 w in
+      let e : i + 1 ≡ word w 1 = omega arith in
+      let stored = stands-stored w part rs s i (omega arith) 0 0 in
+      let front : set rs i (row 0 0) ≡ take i rs ++ (row 0 0 ∷ []) =
+      set-split rs i (row 0 0) (omega (arith, s .count)) ∙ ap (λ (q : List Row). take i rs ++ (row 0 0 ∷ q)) (drop-of-length-le rs {i = suc i} (omega (arith, s .count))) in
+      let free : 0 ∷ 0 ∷ zeros (word w 1) rest ≡ zeros i rest = ap (λ (m : ℕ). 0 ∷ 0 ∷ zeros m rest) (sym e) ∙ sym (zeros-two i rest (omega arith)) in
+      let rows : take i rs ≡ target = sym (removed-last rs i (omega (arith, s .count))) ∙ closing .2 in
+      rw (← at)
+      (ap (λ (q : List ℕ). set q 1 i) (stored .words)
+      ∙ ap (λ (q : List Row). laid kind i q (zeros (word w 1) rest)) front
+      ∙ laid-snoc kind i (take i rs) (zeros (word w 1) rest) (row 0 0)
+      ∙ ap₂ (laid kind i) rows free
+      ∙ sym (object-laid kind target rest i (ap length (sym rows) ∙ length-take-le i rs (omega (arith, s .count)))))
+
+-- ---- The rows after an operation
+
+pub kept : (w : List ℕ) (rs : List Row) → StartsPacked w → rs ≡ rowsIn w → w ≡ withRows w rs
+kept w rs packed e = packed .words ∙ ap (withRows w) (sym e)
+
+pub push-room : (w : List ℕ) (o : Operation) → o .number ≡ 1 → length (nextOf o (rowsIn w)) ≤ 64 → word w 1 < 64
+push-room w o e l = omega (arith, ap length (next-push o (rowsIn w) e), length-append (rowsIn w) (row (o .key) 0 ∷ []), rows-count w)
+
+module _ (w : List ℕ) (n : ℕ) (size : n ≡ word w 1) where
+  pub put-past : (r : Row) → putAt n r (rowsIn w) ≡ rowsIn w ++ (r ∷ [])
+  put-past r = ap (λ (m : ℕ). putAt m r (rowsIn w)) (size ∙ sym (rows-count w)) ∙ put-last (rowsIn w) r
+
+  pub last-removed : 0 < n → removedAt (n - 1) (rowsIn w) ≡ take (length (rowsIn w) - 1) (rowsIn w)
+  last-removed l =
+      removed-last (rowsIn w) (n - 1) (omega (arith, rows-count w)) ∙ ap (λ (m : ℕ). take (m - 1) (rowsIn w)) (size ∙ sym (rows-count w))
+
+  pub none-removed : n ≤ 0 → take (length (rowsIn w) - 1) (rowsIn w) ≡ rowsIn w
+  none-removed l = take-all (length (rowsIn w) - 1) (rowsIn w) (omega (arith, rows-count w))
+
+module _ (w : List ℕ) (k at : ℕ) (here : at ≡ positionOf k (rowsIn w)) where
+  pub within : present k (rowsIn w) ≡ true → at < word w 1
+  within h = omega (arith, rows-count w, there k (rowsIn w) h .within)
+
+  pub room : (v : ℕ) → present k (rowsIn w) ≡ false → length (inserted k v (rowsIn w)) ≤ 64 → (at ≤ word w 1) × (word w 1 < 64)
+  room v h l = (omega (arith, rows-count w, absent k (rowsIn w) h .within), omega (arith, rows-count w, inserted-more k (rowsIn w) v h))
+
+  pub put-inserted : (v : ℕ) → present k (rowsIn w) ≡ false → putAt at (row k v) (rowsIn w) ≡ inserted k v (rowsIn w)
+  put-inserted v h = rw here (sym (absent k (rowsIn w) h .inserts v))
+
+  pub removed-deleted : present k (rowsIn w) ≡ true → removedAt at (rowsIn w) ≡ deleted k (rowsIn w)
+  removed-deleted h = rw here (sym (there k (rowsIn w) h .deletes))
+
+  pub stored-modified : StartsPacked w → (v : ℕ) → present k (rowsIn w) ≡ true → set w (3 + 2 * at) v ≡ withRows w (modified k v (rowsIn w))
+  stored-modified packed v h =
+      let t = there k (rowsIn w) h in
+      value-stored w at k v packed (within h) (rw here (t .key)) ∙ ap (withRows w) (ap (λ (m : ℕ). set (rowsIn w) m (row k v)) here ∙ sym (t .modifies v))

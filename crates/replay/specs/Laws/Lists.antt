@@ -10,12 +10,12 @@ use lib.Seq.{length-take-le, take-take, take-set-lt, take-suc-set, getD-take}
 use Rattle.replay.specs.Replay.{putAt, removedAt}
 
 module _ {A : Type 0} where
-  put-next : (xs : List A) (i : ℕ) (x d : A) → i < length xs → putAt (suc i) (getD xs i d) (set xs i x) ≡ putAt i x xs
+  pub put-next : (xs : List A) (i : ℕ) (x d : A) → i < length xs → putAt (suc i) (getD xs i d) (set xs i x) ≡ putAt i x xs
   put-next [] i x d h = absurd (not-suc-le-zero h)
   put-next (y ∷ ys) zero x d h = refl
   put-next (y ∷ ys) (suc i) x d h = ap (λ q. y ∷ q) (put-next ys i x d (le-of-suc-le-suc h))
 
-  removed-next : (xs : List A) (i : ℕ) (d : A) → suc i < length xs → removedAt (suc i) (set xs i (getD xs (suc i) d)) ≡ removedAt i xs
+  pub removed-next : (xs : List A) (i : ℕ) (d : A) → suc i < length xs → removedAt (suc i) (set xs i (getD xs (suc i) d)) ≡ removedAt i xs
   removed-next [] i d h = absurd (not-suc-le-zero h)
   removed-next (y ∷ []) i d h = absurd (not-suc-le-zero (le-of-suc-le-suc h))
   removed-next (y ∷ z ∷ ys) zero d h = refl
@@ -30,7 +30,7 @@ module _ {A : Type 0} where
   put-last [] x = refl
   put-last (y ∷ ys) x = ap (λ q. y ∷ q) (put-last ys x)
 
-  removed-last : (xs : List A) (i : ℕ) → length xs ≤ suc i → removedAt i xs ≡ take i xs
+  pub removed-last : (xs : List A) (i : ℕ) → length xs ≤ suc i → removedAt i xs ≡ take i xs
   removed-last xs i h = rw (drop-of-length-le xs h, append-nil)
 
   pub length-put : (i : ℕ) (x : A) (xs : List A) → length (putAt i x xs) ≡ length xs + 1

@@ -33,7 +33,7 @@ module _ (o : Operation) where
     pub next-push : o .number ≡ 1 → nextOf o rs ≡ rs ++ (row (o .key) 0 ∷ [])
     next-push e = next-at e
 
-    next-pop : o .number ≡ 2 → nextOf o rs ≡ take (length rs - 1) rs
+    pub next-pop : o .number ≡ 2 → nextOf o rs ≡ take (length rs - 1) rs
     next-pop e = next-at e
 
     pub next-set-insert : o .number ≡ 4 → nextOf o rs ≡ inserted (o .key) 0 rs
@@ -49,7 +49,7 @@ module _ (o : Operation) where
     next-modify e = next-at e
 
     -- Of every other number.
-    next-same : (o .number ≡ 1 → ⊥) → (o .number ≡ 2 → ⊥) → (o .number ≡ 4 → ⊥) → (o .number ≡ 5 → ⊥)
+    pub next-same : (o .number ≡ 1 → ⊥) → (o .number ≡ 2 → ⊥) → (o .number ≡ 4 → ⊥) → (o .number ≡ 5 → ⊥)
         → (o .number ≡ 7 → ⊥) → (o .number ≡ 8 → ⊥) → (o .number ≡ 11 → ⊥) → nextOf o rs ≡ rs
     next-same n1 n2 n4 n5 n7 n8 n11 =
         same (o .number) 0 (λ e. next-at e)
