@@ -16,3 +16,4 @@ pub mod replies;
 pub mod script;
 pub mod serial;
 pub mod tally;
+pub mod threads;
