@@ -23,8 +23,13 @@ pub struct Refusal(pub u32);
 #[derive(Clone, Copy, Debug, PartialEq, Eq)]
 pub enum Operated {
     /// Nothing was changed: an entry of this handout forces a wait.
-    Wait { owner: u32 },
-    Answered { code: u32, value: u32 },
+    Wait {
+        owner: u32,
+    },
+    Answered {
+        code: u32,
+        value: u32,
+    },
 }
 
 /// What finish and cancel reply. The counts are of the handouts that committed, at the front of the list in order of commitment.

@@ -38,6 +38,15 @@ pub fn draw(profile: &Profile, seed: u64) -> Script {
     drawing.finished()
 }
 
+/// Transactions in an order that is drawn.
+pub fn shuffled(draws: &mut Draws, transactions: impl Iterator<Item = u32>) -> Vec<u32> {
+    let mut transactions: Vec<u32> = transactions.collect();
+    for last in (1..transactions.len()).rev() {
+        transactions.swap(last, draws.below(last + 1));
+    }
+    transactions
+}
+
 struct Drawing<'a> {
     profile: &'a Profile,
     draws: Draws,
@@ -55,10 +64,7 @@ struct Drawing<'a> {
 impl<'a> Drawing<'a> {
     fn new(profile: &'a Profile, seed: u64) -> Self {
         let mut draws = Draws::new(seed);
-        let mut numbers: Vec<u32> = (0..64).collect();
-        for last in (1..64).rev() {
-            numbers.swap(last, draws.below(last + 1));
-        }
+        let mut numbers = shuffled(&mut draws, 0..64);
         numbers.truncate(profile.transactions);
         let store = vec![0; WORDS];
         let (answered, keys, script) = (Vec::new(), BTreeSet::new(), Script::default());
@@ -263,8 +269,9 @@ impl<'a> Drawing<'a> {
         self.end(transaction);
     }
 
+    /// Ends one after the other; so many times at most, should the second implementation end none.
     fn end_the_active(&mut self) {
-        loop {
+        for _ in 0..64 {
             let active = self.with_status(&(0..64).collect::<Vec<_>>(), ACTIVE);
             if active.is_empty() {
                 return;

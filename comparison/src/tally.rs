@@ -56,7 +56,7 @@ impl Tally {
         other.0.iter().for_each(|(row, &times)| self.add(row, times));
     }
 
-    fn add(&mut self, row: &str, times: u64) {
+    pub fn add(&mut self, row: &str, times: u64) {
         match self.0.get_mut(row) {
             Some(count) => *count += times,
             None => drop(self.0.insert(row.to_string(), times)),

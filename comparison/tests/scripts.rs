@@ -2,9 +2,7 @@
 //! must be a serial history by itself.
 
 use std::io::{self, Write};
-use std::sync::atomic::{AtomicUsize, Ordering};
 use std::sync::{Arc, Mutex};
-use std::thread;
 
 use comparison::difference;
 use comparison::drawing::draw;
@@ -13,8 +11,8 @@ use comparison::program::{saved, Program, PIPE};
 use comparison::script::Script;
 use comparison::serial::{self, Served};
 use comparison::tally::{Tally, ROWS};
+use comparison::threads::divided;
 
-const THREADS: usize = 2;
 const FEWEST_SCRIPTS: usize = 20_000;
 const OFTEN_ENOUGH: u64 = 100;
 const FEWEST_SERVED: Served = Served { histories: 20_000, times: 50_000, operations: 500_000, sets: 200_000 };
@@ -108,22 +106,12 @@ impl Pass {
 fn run_all() -> Pass {
     let programs = Program::both();
     let scripts = profiles::scripts();
-    let next = AtomicUsize::new(0);
-    let work = || {
-        let mut pass = Pass::default();
-        loop {
-            let place = next.fetch_add(1, Ordering::Relaxed);
-            match scripts.get(place) {
-                Some(&(profile, seed)) => pass.run(place, profile, seed, &programs),
-                None => return pass,
-            }
-        }
+    let run = |pass: &mut Pass, place: usize| {
+        let (profile, seed) = scripts[place];
+        pass.run(place, profile, seed, &programs);
     };
     let mut total = Pass::default();
-    thread::scope(|scope| {
-        let workers: Vec<_> = (0..THREADS).map(|_| scope.spawn(work)).collect();
-        workers.into_iter().for_each(|worker| total.join(worker.join().expect("see above")));
-    });
+    divided(scripts.len(), run).into_iter().for_each(|pass| total.join(pass));
     total
 }
 

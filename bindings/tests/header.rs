@@ -1,0 +1,146 @@
+//! The header, in C and in C++: its numbers are the paper's, and its structs are laid out as the wrapper's.
+
+mod common;
+
+use std::fmt::Write;
+use std::mem::size_of;
+use std::process::{Command, Output};
+use std::ptr::addr_of;
+
+use common::{built, printed, run};
+use lending_desk::raw::{Accepted, Ended, Operated, Part};
+
+const NUMBERS: [(&str, usize); 36] = [
+    ("WORDS", lending_desk::WORDS),
+    ("OBJECTS", lending_desk::OBJECTS),
+    ("LIST", lending_desk::LIST),
+    ("NONE", 0),
+    ("STACK", 1),
+    ("SET", 2),
+    ("TABLE", 3),
+    ("PUSH", 1),
+    ("POP", 2),
+    ("TOP", 3),
+    ("SET_INSERT", 4),
+    ("SET_DELETE", 5),
+    ("SET_MEMBER", 6),
+    ("TABLE_INSERT", 7),
+    ("TABLE_DELETE", 8),
+    ("TABLE_LOOKUP", 9),
+    ("TABLE_SIZE", 10),
+    ("TABLE_MODIFY", 11),
+    ("WAIT", 0),
+    ("ANSWERED", 1),
+    ("FINISHED", 2),
+    ("COMMITTED", 3),
+    ("CIRCLE", 4),
+    ("CANCELLED", 5),
+    ("ACCEPTED", 0),
+    ("BOOK_LENGTH", 1),
+    ("LIST_LENGTH", 2),
+    ("BAD_KINDS", 3),
+    ("UNSOUND", 4),
+    ("HANDOUT_NUMBER", 5),
+    ("HANDOUT_LIVE", 6),
+    ("NOT_OPEN", 7),
+    ("NO_OBJECT", 8),
+    ("WRONG_OPERATION", 9),
+    ("LOG_FULL", 10),
+    ("NO_ROOM", 11),
+];
+
+/// A struct of the wrapper: the header's name for it, its size, and the offsets of its fields.
+type Layout = (&'static str, usize, Vec<(&'static str, usize)>);
+
+macro_rules! layout {
+    ($name:literal, $type:ident { $($field:ident),* }) => {{
+        let value = $type { $($field: 0),* };
+        let offsets = vec![$((stringify!($field), addr_of!(value.$field) as usize - addr_of!(value) as usize)),*];
+        ($name, size_of::<$type>(), offsets)
+    }};
+}
+
+fn layouts() -> [Layout; 4] {
+    [
+        layout!("lending_desk_accepted", Accepted { refusal }),
+        layout!("lending_desk_operated", Operated { refusal, code, owner, answer, value }),
+        layout!("lending_desk_ended", Ended { refusal, code, count }),
+        layout!("lending_desk_part", Part { refusal, start, rows }),
+    ]
+}
+
+/// Expressions of C, and what they must be when compiled.
+fn expectations() -> Vec<(String, usize)> {
+    let mut expected = vec![("sizeof(size_t)".to_string(), size_of::<usize>())];
+    expected.extend(NUMBERS.map(|(name, number)| (format!("LENDING_DESK_{name}"), number)));
+    for (name, size, offsets) in layouts() {
+        expected.push((format!("sizeof({name})"), size));
+        expected.extend(offsets.into_iter().map(|(field, offset)| (format!("offsetof({name}, {field})"), offset)));
+    }
+    expected
+}
+
+/// A program that compiles only where the expectations hold, and ends well where set up accepts.
+fn program(expectations: &[(String, usize)]) -> String {
+    let mut text = "#include \"lending_desk.h\"\n".to_string();
+    for (number, (expression, expected)) in expectations.iter().enumerate() {
+        writeln!(text, "typedef char expectation_{number}[({expression}) == {expected} ? 1 : -1];").expect("a string");
+    }
+    text + "static uint32_t book[LENDING_DESK_WORDS];\n\
+        static const uint8_t kinds[LENDING_DESK_OBJECTS] = {1, 2, 3};\n\
+        int main(void) {\n\
+            return (int)lending_desk_set_up(book, LENDING_DESK_WORDS, kinds, LENDING_DESK_OBJECTS).refusal;\n\
+        }\n"
+}
+
+/// Compiles and links a program with every warning an error.
+fn compile(compiler: &str, standard: &str, name: &str, expectations: &[(String, usize)]) -> Output {
+    let source = built(&format!("{name}.c"));
+    std::fs::write(&source, program(expectations)).expect("the source is written");
+    let mut command = Command::new(compiler);
+    command.args([standard, "-Wall", "-Wextra", "-pedantic", "-Werror", "-Iinclude"]);
+    if compiler == "g++" {
+        command.args(["-x", "c++"]).arg(source).args(["-x", "none"]);
+    } else {
+        command.arg(source);
+    }
+    run(command.args(["target/staticlib/libcapi.a", "-o"]).arg(built(name)))
+}
+
+#[track_caller]
+fn assert_header_serves(compiler: &str, standard: &str, name: &str) {
+    let Output { status, stderr, .. } = compile(compiler, standard, name, &expectations());
+    assert!(status.success(), "{}", String::from_utf8_lossy(&stderr));
+    printed(&mut Command::new(built(name)));
+}
+
+#[test]
+fn header_serves_c() {
+    assert_header_serves("cc", "-std=c99", "header_c99");
+}
+
+#[test]
+fn header_serves_cpp() {
+    if Command::new("g++").arg("--version").output().is_err() {
+        return eprintln!("no g++ here: the header is not tried in C++");
+    }
+    assert_header_serves("g++", "-std=c++11", "header_cpp11");
+}
+
+/// Some at a time, since compilers don't tell of more than so many errors.
+#[test]
+fn every_wrong_number_and_layout_is_noticed() {
+    const AT_ONCE: usize = 15;
+    let right = expectations();
+    for first in (0..right.len()).step_by(AT_ONCE) {
+        let places = first..right.len().min(first + AT_ONCE);
+        let mut wrong = right.clone();
+        wrong[places.clone()].iter_mut().for_each(|(_, number)| *number += 1);
+        let Output { status, stderr, .. } = compile("cc", "-std=c99", "header_wrong", &wrong);
+        let told = String::from_utf8_lossy(&stderr);
+        assert!(!status.success());
+        for place in places {
+            assert!(told.contains(&format!("expectation_{place}[")), "{:?}: {told}", wrong[place]);
+        }
+    }
+}
