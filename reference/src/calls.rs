@@ -138,8 +138,8 @@ fn object_with_kind(store: &Words, object: u32) -> Result<(usize, Kind), Refusal
 
 /// The owner of the earliest entry of another transaction on the object that the request isn't recoverable against.
 fn first_conflict(store: &Words, transaction: usize, object: usize, request: Request) -> Option<usize> {
-    log::entries(store)
-        .filter(|entry| entry.object == object && entry.transaction != transaction)
+    log::entries_on(store, object)
+        .filter(|entry| entry.transaction != transaction)
         .find(|Entry { request: logged, .. }| {
             !RECOVERABLE.allow((request.operation, request.key), (logged.operation, logged.key))
         })

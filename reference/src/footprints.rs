@@ -2,7 +2,7 @@
 
 use crate::layout::ENTRIES;
 use crate::operations::Operation;
-use crate::rules::Rule;
+use crate::rules::{Row, Rule};
 use crate::transactions::{only, TransactionSet};
 
 /// The owners of logged entries, one set for each operation of the object's kind.
@@ -16,13 +16,14 @@ impl Owners {
 
     /// The owners of entries that a requested operation's row of rules says no to, out of the owners of entries on the
     /// same key and on any key of the object.
-    pub fn disallowed(rules: &[Rule], same_key: &Owners, any_key: &Owners) -> TransactionSet {
+    pub fn disallowed(rules: &Row, same_key: &Owners, any_key: &Owners) -> TransactionSet {
         let logged = same_key.0.iter().zip(&any_key.0);
-        rules.iter().zip(logged).fold(0, |owners, (rule, (same_key, any_key))| match rule {
-            Rule::Always => owners,
-            Rule::Apart => owners | same_key,
-            Rule::Never => owners | any_key,
-        })
+        let disallowed = rules.iter().zip(logged).map(|(rule, (same_key, any_key))| match rule {
+            Rule::Always => 0,
+            Rule::Apart => *same_key,
+            Rule::Never => *any_key,
+        });
+        disallowed.fold(0, |owners, more| owners | more)
     }
 }
 
@@ -33,13 +34,13 @@ const FREE: u16 = u16::MAX;
 /// The owners for each key of each object in a log, found by hashing.
 pub(crate) struct Footprints {
     slots: [u16; SLOTS],
-    places: [(u64, Owners); ENTRIES],
-    count: usize,
+    places: Vec<(u64, Owners)>,
 }
 
 impl Footprints {
-    pub fn new() -> Footprints {
-        Footprints { slots: [FREE; SLOTS], places: [(0, Owners::default()); ENTRIES], count: 0 }
+    /// For a log of so many entries.
+    pub fn new(entries: usize) -> Footprints {
+        Footprints { slots: [FREE; SLOTS], places: Vec::with_capacity(entries) }
     }
 
     /// The owners for a key, asked for at most once for each log entry.
@@ -49,9 +50,8 @@ impl Footprints {
         loop {
             match self.slots[slot] {
                 FREE => {
-                    self.slots[slot] = self.count as u16;
-                    self.places[self.count].0 = place;
-                    self.count += 1;
+                    self.slots[slot] = self.places.len() as u16;
+                    self.places.push((place, Owners::default()));
                 }
                 index if self.places[usize::from(index)].0 == place => {
                     return &mut self.places[usize::from(index)].1;

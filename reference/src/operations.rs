@@ -55,6 +55,8 @@ pub enum Operation {
 use Operation::*;
 
 impl Operation {
+    /// How many operations there are.
+    pub const COUNT: usize = Operation::ALL.len();
     const ALL: [Operation; 11] =
         [Push, Pop, Top, SetInsert, SetDelete, Member, TableInsert, TableDelete, Lookup, Size, Modify];
 

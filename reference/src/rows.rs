@@ -68,7 +68,7 @@ impl Rows<'_> {
     /// Where the key's row is, or else where it would stand: keys ascend, so as many stand before it as are less.
     fn find(&self, key: u32) -> Result<usize, usize> {
         let rows = self.words[..self.count() * ROW_WORDS].chunks_exact(ROW_WORDS);
-        let at = rows.filter(|row| row[0] < key).count();
+        let at = rows.map(|row| u32::from(row[0] < key)).sum::<u32>() as usize;
         if at < self.count() && self.words[at * ROW_WORDS] == key {
             Ok(at)
         } else {

@@ -1,6 +1,6 @@
 //! The pair rules: which operations may run side by side, and which may commit in any order.
 
-use crate::operations::{Kind, Operation};
+use crate::operations::Operation;
 
 /// When a pair of operations is recoverable, or commutes.
 #[derive(Clone, Copy, Debug, PartialEq, Eq)]
@@ -13,71 +13,64 @@ pub(crate) enum Rule {
 
 use Rule::{Always, Apart, Never};
 
-/// One table for each kind: a row for each requested operation, in it a rule for each logged one.
-pub(crate) struct PairRules {
-    stack: [[Rule; 3]; 3],
-    set: [[Rule; 3]; 3],
-    table: [[Rule; 5]; 5],
+/// A table for each kind, one after the other: a row for each requested operation, in it a rule for each logged one of
+/// the kind.
+pub(crate) struct PairRules([Row; Operation::COUNT]);
+
+pub(crate) type Row = [Rule; Operation::MOST_OF_A_KIND];
+
+/// A row of a kind that has three operations.
+const fn three(rules: [Rule; 3]) -> Row {
+    let [first, second, third] = rules;
+    [first, second, third, Always, Always]
 }
 
 /// The requested operation's reply is the same from every state, whether or not the logged one ran.
 #[rustfmt::skip]
-pub(crate) const RECOVERABLE: PairRules = PairRules {
-    stack: [
-        // push    pop     top
-        [Always, Always, Always], // push
-        [Never,  Never,  Always], // pop
-        [Never,  Never,  Always], // top
-    ],
-    set: [
-        // insert  delete  member
-        [Always, Always, Always], // insert
-        [Apart,  Apart,  Always], // delete
-        [Apart,  Apart,  Always], // member
-    ],
-    table: [
-        // insert  delete  lookup  size    modify
-        [Apart,  Apart,  Always, Always, Always], // insert
-        [Apart,  Apart,  Always, Always, Always], // delete
-        [Apart,  Apart,  Always, Always, Apart],  // lookup
-        [Never,  Never,  Always, Always, Always], // size
-        [Apart,  Apart,  Always, Always, Always], // modify
-    ],
-};
+pub(crate) const RECOVERABLE: PairRules = PairRules([
+    //     push    pop     top
+    three([Always, Always, Always]), // push
+    three([Never,  Never,  Always]), // pop
+    three([Never,  Never,  Always]), // top
+
+    //     insert  delete  member
+    three([Always, Always, Always]), // insert
+    three([Apart,  Apart,  Always]), // delete
+    three([Apart,  Apart,  Always]), // member
+
+    // insert  delete  lookup  size    modify
+    [Apart,  Apart,  Always, Always, Always], // insert
+    [Apart,  Apart,  Always, Always, Always], // delete
+    [Apart,  Apart,  Always, Always, Apart],  // lookup
+    [Never,  Never,  Always, Always, Always], // size
+    [Apart,  Apart,  Always, Always, Always], // modify
+]);
 
 /// Replies and state are the same either way round.
 #[rustfmt::skip]
-pub(crate) const COMMUTING: PairRules = PairRules {
-    stack: [
-        // push    pop     top
-        [Never,  Never,  Never],  // push
-        [Never,  Never,  Never],  // pop
-        [Never,  Never,  Always], // top
-    ],
-    set: [
-        // insert  delete  member
-        [Always, Apart,  Apart],  // insert
-        [Apart,  Apart,  Apart],  // delete
-        [Apart,  Apart,  Always], // member
-    ],
-    table: [
-        // insert  delete  lookup  size    modify
-        [Apart,  Apart,  Apart,  Never,  Apart],  // insert
-        [Apart,  Apart,  Apart,  Never,  Apart],  // delete
-        [Apart,  Apart,  Always, Always, Apart],  // lookup
-        [Never,  Never,  Always, Always, Always], // size
-        [Apart,  Apart,  Apart,  Always, Apart],  // modify
-    ],
-};
+pub(crate) const COMMUTING: PairRules = PairRules([
+    //     push    pop     top
+    three([Never,  Never,  Never]),  // push
+    three([Never,  Never,  Never]),  // pop
+    three([Never,  Never,  Always]), // top
+
+    //     insert  delete  member
+    three([Always, Apart,  Apart]),  // insert
+    three([Apart,  Apart,  Apart]),  // delete
+    three([Apart,  Apart,  Always]), // member
+
+    // insert  delete  lookup  size    modify
+    [Apart,  Apart,  Apart,  Never,  Apart],  // insert
+    [Apart,  Apart,  Apart,  Never,  Apart],  // delete
+    [Apart,  Apart,  Always, Always, Apart],  // lookup
+    [Never,  Never,  Always, Always, Always], // size
+    [Apart,  Apart,  Apart,  Always, Apart],  // modify
+]);
 
 impl PairRules {
     /// The rules for a requested operation, one for each operation of its kind.
-    pub fn row(&self, requested: Operation) -> &[Rule] {
-        match requested.kind() {
-            Kind::Stack => &self.stack[requested.index()],
-            Kind::Set => &self.set[requested.index()],
-            Kind::Table => &self.table[requested.index()],
-        }
+    pub fn row(&self, requested: Operation) -> &Row {
+        &self.0[requested.number() as usize - 1]
     }
 
     /// Whether the pair, operations of one kind with reduced keys, is one the rules say yes to.

@@ -1,7 +1,7 @@
 //! Whether words are a sound store, and what finding that out brings to light.
 
 use crate::footprints::{Footprints, Owners};
-use crate::layout::{self, ObjectWords, Words, KIND, OBJECTS, ROWS, ROWS_START, ROW_COUNT, ROW_WORDS};
+use crate::layout::{self, ObjectWords, Words, ENTRY_WORDS, KIND, OBJECTS, ROWS, ROWS_START, ROW_COUNT, ROW_WORDS};
 use crate::log::{self, Entry};
 use crate::operations::{reduced, Answer, Kind, Operation, Request};
 use crate::rules::{COMMUTING, RECOVERABLE};
@@ -41,7 +41,7 @@ impl Analysis {
 
     /// Replays a log; none at the first entry that breaks soundness.
     fn replay(&mut self, store: &Words, log: &[u32], replays: &mut Replays) -> Option<()> {
-        let mut footprints = Footprints::new();
+        let mut footprints = Footprints::new(log.len() / ENTRY_WORDS);
         log::read(log).try_for_each(|entry| {
             let entry = entry?;
             let same_key = footprints.at(entry.object, entry.request.key);
@@ -74,28 +74,35 @@ impl Analysis {
     }
 }
 
-/// Objects as the log leaves them, copied from the store only when first asked for, and no space cleared before that.
-pub(crate) struct Replays(Option<[Option<Replay>; OBJECTS]>);
+/// Objects as the log leaves them: those that it touches, copied from the store when first asked for.
+pub(crate) struct Replays {
+    touched: Vec<Replay>,
+    /// Where each object stands among the touched.
+    places: [Option<u8>; OBJECTS],
+}
 
 impl Replays {
     pub fn none() -> Replays {
-        Replays(None)
-    }
-
-    fn cleared() -> [Option<Replay>; OBJECTS] {
-        const NONE: Option<Replay> = None;
-        [NONE; OBJECTS]
+        Replays { touched: Vec::new(), places: [None; OBJECTS] }
     }
 
     fn of(&mut self, store: &Words, object: usize) -> &mut Replay {
-        let replays = self.0.get_or_insert_with(Replays::cleared);
-        replays[object].get_or_insert_with(|| Replay::new(layout::object(store, object)))
+        let Replays { touched, places } = self;
+        let place = *places[object].get_or_insert_with(|| {
+            let place = touched.len();
+            touched.reserve(OBJECTS - place);
+            touched.push(Replay::new(layout::object(store, object)));
+            place as u8
+        });
+        &mut touched[usize::from(place)]
     }
 
-    /// Takes the object out.
-    pub fn take(&mut self, store: &Words, object: usize) -> Replay {
-        let replay = self.0.as_mut().and_then(|replays| replays[object].take());
-        replay.unwrap_or_else(|| Replay::new(layout::object(store, object)))
+    /// The object, taken out.
+    pub fn take(mut self, store: &Words, object: usize) -> Replay {
+        match self.places[object] {
+            Some(place) => self.touched.swap_remove(usize::from(place)),
+            None => Replay::new(layout::object(store, object)),
+        }
     }
 }
 

@@ -1,0 +1,71 @@
+//! The proved library and the second implementation side by side. `bench/run` builds and runs it.
+
+use std::{env, process};
+
+mod books;
+mod calls;
+#[path = "../../reference/tests/common/draws.rs"]
+mod draws;
+mod programs;
+mod rows;
+mod scripts;
+mod stack;
+mod timing;
+
+fn main() {
+    let arguments: Vec<String> = env::args().skip(1).collect();
+    let arguments: Vec<&str> = arguments.iter().map(String::as_str).collect();
+    match arguments[..] {
+        ["--times", part] => times(part),
+        ["--stack", part] => stack(part),
+        ["--names", part] => rows::named(part).for_each(|row| println!("{}", row.name)),
+        ["--calls", side, name, number] => make_calls(side, name, number.parse().expect("a number of calls")),
+        _ => panic!("bench/run runs this"),
+    }
+}
+
+/// The table of times, in nanoseconds of a call or of a script's line.
+fn times(part: &str) {
+    let rows: Vec<_> = rows::named(part).collect();
+    let prepared: Vec<_> = rows.iter().map(|row| row.prepared()).collect();
+    let mut ratios = Vec::new();
+    let mut print = |name: &str, [proved, second]: [f64; 2]| {
+        let ratio = proved / second;
+        println!("{name:32}{proved:10.0}{second:10.0}{ratio:8.2}");
+        ratios.push(ratio);
+    };
+    println!("{:32}{:>10}{:>10}{:>8}", "nanoseconds", "proved", "second", "ratio");
+    for (row, times) in rows.iter().zip(timing::times(&prepared)) {
+        print(&row.name, times);
+    }
+    for profile in scripts::PROFILES.iter().filter(|profile| profile.name.contains(part)) {
+        print(profile.name, programs::times(profile));
+    }
+    if ratios.is_empty() {
+        eprintln!("bench: no row has '{part}' in its name");
+        process::exit(2);
+    }
+    let worst = ratios.iter().copied().fold(0.0, f64::max);
+    let mean = (ratios.iter().map(|ratio| ratio.ln()).sum::<f64>() / ratios.len() as f64).exp();
+    println!("worst ratio {worst:.2}, mean ratio {mean:.2}");
+}
+
+/// The table of stack used, in bytes.
+fn stack(part: &str) {
+    println!("{:32}{:>10}{:>10}", "bytes of stack", "proved", "second");
+    for row in rows::named(part) {
+        let [proved, second] = stack::used(&row.prepared());
+        println!("{:32}{proved:10}{second:10}", row.name);
+    }
+}
+
+/// Makes calls of one implementation, or of none, for a profiler to count.
+fn make_calls(side: &str, name: &str, number: usize) {
+    let serve: calls::Serve = match side {
+        "proved" => calls::proved,
+        "second" => calls::second,
+        _ => calls::nothing,
+    };
+    let row = rows::named(name).find(|row| row.name == name).expect("a row's name");
+    timing::timed(serve, &row.prepared(), number);
+}
