@@ -1,8 +1,10 @@
 //! The documents hold: what they link to is there, and so are the paths, functions, laws, theorems and must-fail edits
-//! that they name; the session in the README is what the program prints.
+//! that they name; the session in the README is what the program prints, and its C is C.
 
 use std::fs;
+use std::io::Write;
 use std::path::{Path, PathBuf};
+use std::process::{Command, Stdio};
 
 use comparison::program::Program;
 
@@ -284,7 +286,7 @@ fn missing_edits(row: &Row) -> Vec<String> {
     missing
 }
 
-// ---- The session
+// ---- What the README shows
 
 /// The input and the output of the session in the README: a command that prints lines into `./desk`, and the replies.
 fn session(readme: &str) -> Option<(String, String)> {
@@ -342,6 +344,30 @@ fn session_is_what_the_program_prints() {
     assert!(input.lines().count() > 5 && input.lines().count() == output.lines().count(), "{input}{output}");
     let printed = Program::lending_desk().run(input.as_bytes()).expect("the program ends well");
     assert_eq!(String::from_utf8_lossy(&printed), output);
+}
+
+/// The commands for the examples are those in the examples' own heads.
+#[test]
+fn commands_are_those_of_the_examples() {
+    let Document { text: readme, .. } = Document::read("README.md");
+    for (example, command) in [("examples/whole_case.c", "cc "), ("examples/whole_case.rs", "cargo run ")] {
+        let line = readme.lines().find(|line| line.starts_with(&format!("    {command}")));
+        let line = line.unwrap_or_else(|| panic!("the README says no {command}"));
+        assert!(Document::read(example).text.contains(line), "{example} does not say{line}");
+    }
+}
+
+/// The fragment in C, put into a function.
+#[test]
+fn fragment_is_c() {
+    let Document { text, .. } = Document::read("README.md");
+    let fragment = text.split("```c\n").nth(1).and_then(|rest| rest.split("```").next()).expect("a fragment in C");
+    let program = format!("#include <stdio.h>\n#include \"lending_desk.h\"\nint main(void) {{\n{fragment}}}\n");
+    let mut compiler = Command::new("cc");
+    compiler.args(["-std=c99", "-Wall", "-Wextra", "-pedantic", "-Werror", "-fsyntax-only", "-x", "c", "-", "-I"]);
+    let mut compiler = compiler.arg(root().join("include")).stdin(Stdio::piped()).spawn().expect("cc starts");
+    compiler.stdin.take().expect("piped").write_all(program.as_bytes()).expect("cc reads it");
+    assert!(compiler.wait().expect("cc ends").success(), "{program}");
 }
 
 /// What the checks say of a text that stands in `docs`.
