@@ -1,0 +1,419 @@
+//! The documents hold: what they link to is there, and so are the paths, functions, laws, theorems and must-fail edits
+//! that they name; the session in the README is what the program prints, and its C is C.
+
+use std::fs;
+use std::io::Write;
+use std::path::{Path, PathBuf};
+use std::process::{Command, Stdio};
+
+use comparison::program::Program;
+
+/// Folders whose paths are written out from the repository's root.
+const FOLDERS: [&str; 8] =
+    ["crates/", "docs/", "bindings/", "reference/", "comparison/", "bench/", "include/", "examples/"];
+
+/// Words that stand for any name in a path.
+const PLACEHOLDERS: [&str; 4] = ["CRATE", "LABEL", "FUNCTION", "NAME"];
+
+fn root() -> PathBuf {
+    Path::new(env!("CARGO_MANIFEST_DIR")).join("..")
+}
+
+struct Document {
+    /// Below the root.
+    path: String,
+    text: String,
+}
+
+impl Document {
+    fn read(path: &str) -> Document {
+        let text = fs::read_to_string(root().join(path)).unwrap_or_else(|error| panic!("{path}: {error}"));
+        Document { path: path.to_string(), text }
+    }
+
+    /// All of them.
+    fn all() -> Vec<Document> {
+        let docs = names_in(&root().join("docs")).into_iter().filter(|name| name.ends_with(".md"));
+        let docs: Vec<Document> = docs.map(|name| Document::read(&format!("docs/{name}"))).collect();
+        assert!(!docs.is_empty());
+        [Document::read("README.md")].into_iter().chain(docs).collect()
+    }
+
+    /// The lines that aren't in a fenced block.
+    fn prose(&self) -> Vec<&str> {
+        let mut fenced = false;
+        let mut lines = Vec::new();
+        for line in self.text.lines() {
+            if line.starts_with("```") {
+                fenced = !fenced;
+            } else if !fenced {
+                lines.push(line);
+            }
+        }
+        lines
+    }
+
+    /// The rows of its tables.
+    fn rows(&self) -> Vec<Row<'_>> {
+        let (mut head, mut subject) = (Vec::new(), None);
+        let mut rows = Vec::new();
+        for line in self.prose() {
+            if line.starts_with("## ") {
+                subject = None;
+            }
+            subject = subject.or_else(|| crate_in(line));
+            if !line.starts_with('|') {
+                head.clear();
+                continue;
+            }
+            let cells: Vec<&str> = line.trim_matches('|').split('|').map(str::trim).collect();
+            if head.is_empty() {
+                head = cells;
+            } else if !line.starts_with("|---") {
+                rows.push(Row { head: head.clone(), cells, subject });
+            }
+        }
+        rows
+    }
+}
+
+/// A row of a table.
+struct Row<'a> {
+    head: Vec<&'a str>,
+    cells: Vec<&'a str>,
+    /// The crate that its section names first.
+    subject: Option<&'a str>,
+}
+
+impl Row<'_> {
+    fn last_head(&self) -> &str {
+        self.head[self.head.len() - 1]
+    }
+
+    fn last(&self) -> &str {
+        self.cells[self.cells.len() - 1]
+    }
+}
+
+fn names_in(folder: &Path) -> Vec<String> {
+    let entries = fs::read_dir(folder).into_iter().flatten().flatten();
+    let mut names: Vec<String> = entries.map(|entry| entry.file_name().to_string_lossy().into_owned()).collect();
+    names.sort();
+    names
+}
+
+/// What stands in backticks.
+fn quoted(text: &str) -> Vec<&str> {
+    text.split('`').skip(1).step_by(2).collect()
+}
+
+fn is_word(text: &str, other: &str) -> bool {
+    !text.is_empty() && text.chars().all(|c| c.is_alphanumeric() || other.contains(c))
+}
+
+// ---- Links and paths
+
+/// The targets of the links.
+fn links(line: &str) -> Vec<&str> {
+    line.split("](").skip(1).filter_map(|rest| rest.split_once(')')).map(|(target, _)| target).collect()
+}
+
+/// A heading as links name it.
+fn anchor(heading: &str) -> String {
+    let kept = heading.trim_start_matches('#').trim().to_lowercase();
+    kept.chars().filter(|&c| c.is_alphanumeric() || " -_".contains(c)).collect::<String>().replace(' ', "-")
+}
+
+/// The links of a line, in a document of this path, that lead nowhere.
+fn broken_links(document: &str, line: &str) -> Vec<String> {
+    let leads = |target: &str| {
+        let (path, place) = target.split_once('#').unwrap_or((target, ""));
+        let from = root().join(document);
+        let file = if path.is_empty() { from } else { from.with_file_name("").join(path) };
+        let has_place = || {
+            let text = fs::read_to_string(&file).unwrap_or_default();
+            text.lines().any(|line| line.starts_with('#') && anchor(line) == place)
+        };
+        file.exists() && (place.is_empty() || has_place())
+    };
+    let targets = links(line).into_iter().filter(|target| !target.contains("://"));
+    targets.filter(|target| !leads(target)).map(|target| format!("the link to {target} leads nowhere")).collect()
+}
+
+/// `a{b,c}d` is `abd` and `acd`.
+fn expanded(path: &str) -> Vec<String> {
+    match path.split_once('{').and_then(|(front, rest)| Some((front, rest.split_once('}')?))) {
+        None => vec![path.to_string()],
+        Some((front, (inner, back))) => {
+            inner.split(',').flat_map(|middle| expanded(&format!("{front}{middle}{back}"))).collect()
+        }
+    }
+}
+
+/// Whether a path is there; `*` and the placeholders stand for any name.
+fn is_there(folder: &Path, path: &str) -> bool {
+    let (name, rest) = path.split_once('/').unwrap_or((path, ""));
+    if name.is_empty() {
+        return folder.exists();
+    }
+    let pattern = PLACEHOLDERS.iter().fold(name.to_string(), |name, word| name.replace(word, "*"));
+    match pattern.split_once('*') {
+        None => folder.join(name).exists() && is_there(&folder.join(name), rest),
+        Some((front, back)) => names_in(folder)
+            .iter()
+            .filter(|name| name.starts_with(front) && name.ends_with(back))
+            .any(|name| is_there(&folder.join(name), rest)),
+    }
+}
+
+/// The crate of the first path in a line.
+fn crate_in(line: &str) -> Option<&str> {
+    let (name, _) = line.split_once("crates/")?.1.split_once('/')?;
+    Some(name).filter(|name| is_crate(name))
+}
+
+fn is_crate(name: &str) -> bool {
+    is_word(name, "_") && root().join("crates").join(name).is_dir()
+}
+
+/// A path within a crate, its ending left out or not, or a must-fail edit of the crate.
+fn is_in_crate(name: &str, rest: &str) -> bool {
+    let folder = format!("crates/{name}");
+    [format!("{folder}/{rest}"), format!("{folder}/{rest}.antt"), format!("{folder}/must-fail/{rest}.edit")]
+        .iter()
+        .any(|path| is_there(&root(), path))
+}
+
+/// The paths that a line names and that aren't there.
+fn missing_paths(line: &str) -> Vec<String> {
+    let is_missing = |name: &&str| {
+        if name.contains(' ') {
+            return false;
+        }
+        if FOLDERS.iter().any(|folder| name.starts_with(folder)) {
+            return expanded(name).iter().any(|path| !is_there(&root(), path));
+        }
+        matches!(name.split_once('/'), Some((first, rest)) if is_crate(first) && !is_in_crate(first, rest))
+    };
+    quoted(line).into_iter().filter(is_missing).map(|name| format!("{name} isn't there")).collect()
+}
+
+// ---- Names
+
+/// Whether code of a crate has the function or constant.
+fn has_item(name: &str, item: &str) -> bool {
+    let source = root().join("crates").join(name).join("src");
+    let texts = names_in(&source).into_iter().map(|file| fs::read_to_string(source.join(file)).unwrap_or_default());
+    let starts = ["fn ", "const ", "struct ", "enum "].map(|word| format!("{word}{item}"));
+    let ends = |rest: &str| !rest.starts_with(|c: char| c.is_alphanumeric() || c == '_');
+    texts.into_iter().any(|text| {
+        starts.iter().any(|start| text.match_indices(start.as_str()).any(|(at, _)| ends(&text[at + start.len()..])))
+    })
+}
+
+/// The functions that a line names, as `crate::function`, and that aren't there.
+fn missing_items(line: &str) -> Vec<String> {
+    let is_missing = |name: &&str| {
+        let (first, item) = name.split_once("::").unwrap_or((name, ""));
+        is_word(item, "_") && is_crate(first) && !has_item(first, item)
+    };
+    quoted(line).into_iter().filter(is_missing).map(|name| format!("there is no {name}")).collect()
+}
+
+/// Whether a file of antt declares a name.
+fn declares(text: &str, name: &str) -> bool {
+    text.lines().any(|line| {
+        let words = line.split_whitespace();
+        let mut words = words.skip_while(|word| ["pub", "abbrev", "unfoldable", "record", "data"].contains(word));
+        words.next() == Some(name)
+    })
+}
+
+/// The text of all files of antt below a folder.
+fn antt_below(folder: &Path) -> String {
+    let text = |name: String| match folder.join(&name) {
+        path if path.is_dir() => antt_below(&path),
+        path if name.ends_with(".antt") => fs::read_to_string(path).unwrap_or_default(),
+        _ => String::new(),
+    };
+    names_in(folder).into_iter().map(text).collect::<Vec<_>>().concat()
+}
+
+/// Names of laws and theorems: no paths, and no code.
+fn declared_names(cell: &str) -> impl Iterator<Item = &str> {
+    quoted(cell).into_iter().filter(|name| is_word(name, "-₂"))
+}
+
+/// Theorems that a table names and no `specs` has.
+fn missing_theorems(row: &Row, specs: &str) -> Vec<String> {
+    if !["name", "part", "besides"].contains(&row.head[0]) {
+        return Vec::new();
+    }
+    let missing = declared_names(row.cells[0]).filter(|name| !declares(specs, name));
+    missing.map(|name| format!("there is no theorem {name}")).collect()
+}
+
+/// Laws that a table names and the file in the same row has not.
+fn missing_laws(row: &Row) -> Vec<String> {
+    if !row.last_head().ends_with("laws") {
+        return Vec::new();
+    }
+    let file = row.cells.iter().flat_map(|cell| quoted(cell)).find(|name| name.ends_with(".antt"));
+    let file = file.unwrap_or_else(|| panic!("{:?} names no file", row.cells));
+    let text = fs::read_to_string(root().join(file)).unwrap_or_default();
+    let missing = declared_names(row.last()).filter(|name| !declares(&text, name));
+    missing.map(|name| format!("{file} has no law {name}")).collect()
+}
+
+/// Must-fail edits that a table names by their labels alone, and that aren't there: they are edits of the crate that
+/// the cell names before them, or else of the one that the section names first.
+fn missing_edits(row: &Row) -> Vec<String> {
+    if !row.last_head().contains("(edit") {
+        return Vec::new();
+    }
+    let mut subject = row.subject;
+    let mut missing = Vec::new();
+    for name in quoted(row.last()) {
+        if is_crate(name) {
+            subject = Some(name);
+        } else if is_word(name, "_") && name.contains('_') {
+            let subject = subject.unwrap_or("no crate");
+            if !is_there(&root(), &format!("crates/{subject}/must-fail/{name}.edit")) {
+                missing.push(format!("{subject} has no must-fail edit {name}"));
+            }
+        }
+    }
+    missing
+}
+
+// ---- What the README shows
+
+/// The input and the output of the session in the README: a command that prints lines into `./desk`, and the replies.
+fn session(readme: &str) -> Option<(String, String)> {
+    let mut lines = readme.lines().skip_while(|line| !line.starts_with("    $ printf '%s\\n' "));
+    let (command, _) = lines.next()?.split_once(" | ./desk")?;
+    let calls = command.split('\'').skip(3).step_by(2);
+    let replies = lines.map_while(|line| line.strip_prefix("    "));
+    let ended = |line: &str| format!("{line}\n");
+    Some((calls.map(ended).collect(), replies.map(ended).collect()))
+}
+
+// ---- Tests
+
+/// Nothing is wrong with any document.
+fn assert_holds(check: impl Fn(&Document) -> Vec<String>) {
+    let said = |document: &Document| {
+        check(document).into_iter().map(|wrong| format!("{}: {wrong}\n", document.path)).collect()
+    };
+    let wrong: String = Document::all().iter().map(said).collect::<Vec<String>>().concat();
+    assert!(wrong.is_empty(), "\n{wrong}");
+}
+
+#[test]
+fn links_lead_somewhere() {
+    assert_holds(|document| document.prose().into_iter().flat_map(|line| broken_links(&document.path, line)).collect());
+}
+
+#[test]
+fn paths_are_there() {
+    assert_holds(|document| document.prose().into_iter().flat_map(missing_paths).collect());
+}
+
+#[test]
+fn functions_are_there() {
+    assert_holds(|document| document.prose().into_iter().flat_map(missing_items).collect());
+}
+
+#[test]
+fn theorems_and_laws_are_there() {
+    let specs = antt_below(&root().join("crates"));
+    assert_holds(|document| {
+        let rows = document.rows();
+        rows.iter().flat_map(|row| [missing_theorems(row, &specs), missing_laws(row)].concat()).collect()
+    });
+}
+
+#[test]
+fn must_fail_edits_are_there() {
+    assert_holds(|document| document.rows().iter().flat_map(missing_edits).collect());
+}
+
+#[test]
+fn session_is_what_the_program_prints() {
+    let (input, output) = session(&Document::read("README.md").text).expect("the README has a session");
+    assert!(input.lines().count() > 5 && input.lines().count() == output.lines().count(), "{input}{output}");
+    let printed = Program::lending_desk().run(input.as_bytes()).expect("the program ends well");
+    assert_eq!(String::from_utf8_lossy(&printed), output);
+}
+
+/// The commands for the examples are those in the examples' own heads.
+#[test]
+fn commands_are_those_of_the_examples() {
+    let Document { text: readme, .. } = Document::read("README.md");
+    for (example, command) in [("examples/whole_case.c", "cc "), ("examples/whole_case.rs", "cargo run ")] {
+        let line = readme.lines().find(|line| line.starts_with(&format!("    {command}")));
+        let line = line.unwrap_or_else(|| panic!("the README says no {command}"));
+        assert!(Document::read(example).text.contains(line), "{example} does not say{line}");
+    }
+}
+
+/// The fragment in C, put into a function.
+#[test]
+fn fragment_is_c() {
+    let Document { text, .. } = Document::read("README.md");
+    let fragment = text.split("```c\n").nth(1).and_then(|rest| rest.split("```").next()).expect("a fragment in C");
+    let program = format!("#include <stdio.h>\n#include \"lending_desk.h\"\nint main(void) {{\n{fragment}}}\n");
+    let mut compiler = Command::new("cc");
+    compiler.args(["-std=c99", "-Wall", "-Wextra", "-pedantic", "-Werror", "-fsyntax-only", "-x", "c", "-", "-I"]);
+    let mut compiler = compiler.arg(root().join("include")).stdin(Stdio::piped()).spawn().expect("cc starts");
+    compiler.stdin.take().expect("piped").write_all(program.as_bytes()).expect("cc reads it");
+    assert!(compiler.wait().expect("cc ends").success(), "{program}");
+}
+
+/// What the checks say of a text that stands in `docs`.
+fn said(text: &str) -> Vec<String> {
+    let document = Document { path: "docs/TEXT.md".to_string(), text: text.to_string() };
+    let lines = |line: &str| [broken_links(&document.path, line), missing_paths(line), missing_items(line)].concat();
+    let rows = document.rows();
+    let specs = antt_below(&root().join("crates/store/specs"));
+    let rows =
+        rows.iter().flat_map(|row| [missing_theorems(row, &specs), missing_laws(row), missing_edits(row)].concat());
+    document.prose().into_iter().flat_map(lines).chain(rows).collect()
+}
+
+#[test]
+fn right_texts_are_let_through() {
+    for text in [
+        "[there](PROMISES.md#how-to-check-one), [up](../README.md), [out](https://example.org/none)",
+        "`crates/store/specs/{Store,Layout}.antt`, `crates/*/must-fail`, `crates/CRATE/must-fail/LABEL.edit`, `docs/`",
+        "`store/specs/Layout`, `store/dependency_reversed`, `log::append`, `layout::NOBODY`, `bytes::copy`, `no/such`",
+        "```\n[not](looked-at.md) `docs/none`\n```",
+        "| subject | laws |\n|---|---|\n| `crates/store/specs/Laws/Lists.antt` | `length-tabulate` |",
+        "| name | promise |\n|---|---|\n| `zeros-sound` (`Theorems.antt`) | |",
+        "In `crates/store/src`.\n\n| name | it rules out (edit) |\n|---|---|\n| | (`dependency_reversed`) |",
+        "| call | it rules out (edit) |\n|---|---|\n| | of `store`: (`dependency_reversed`) |",
+    ] {
+        assert_eq!(said(text), [""; 0], "{text}");
+    }
+}
+
+#[test]
+fn wrong_texts_are_noticed() {
+    for text in [
+        "[nowhere](NONE.md)",
+        "[no such place](PROMISES.md#nowhere)",
+        "[not from here](docs/PROMISES.md)",
+        "`crates/store/specs/{Store,None}.antt`",
+        "`crates/*/none`",
+        "`bench/none.rs`",
+        "`store/specs/None`",
+        "`store/no_such_edit`",
+        "`log::appended`",
+        "| subject | laws |\n|---|---|\n| `crates/store/specs/Laws/Lists.antt` | `length-tabulated` |",
+        "| name | promise |\n|---|---|\n| `zeros-unsound` | |",
+        "In `crates/log/src`.\n\n| name | it rules out (edit) |\n|---|---|\n| | (`dependency_reversed`) |",
+        "## `crates/store`\n\n## Another\n\n| call | it rules out (edit) |\n|---|---|\n| | (`dependency_reversed`) |",
+    ] {
+        assert_eq!(said(text).len(), 1, "{text}: {:?}", said(text));
+    }
+}
