@@ -1,4 +1,4 @@
-// Replay of one operation on a copy of an object's rows: 64 pairs by value, handed through and handed back.
+// Replay of one operation on a copy of 64 pairs, an object's rows: changed in place, or handed through by value and handed back.
 use operations::Operation;
 use operations::Reply;
 ghost use mathlib.Core.Path.{_≡_};
