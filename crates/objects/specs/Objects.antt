@@ -30,7 +30,7 @@ wordsOf kind rows = kind ∷ length rows ∷ padded 128 (joined rowWords rows)
 
 -- Its rows, as pairs of words and as rows.
 abbrev pub pairsIn : List ℕ → List (List ℕ)
-pairsIn w = tabulate (word w 1) (λ i. word w (2 + 2 * i) ∷ word w (3 + 2 * i) ∷ [])
+pairsIn w = tabulate (word w 1) (λ i. word w (2 + 2 * i) ∷ word w (2 + 2 * i + 1) ∷ [])
 
 abbrev pub rowsIn : List ℕ → List Row
 rowsIn w = map rowOf (pairsIn w)

@@ -70,7 +70,7 @@ fn has_no_values(book: &[u32], object: usize) -> bool
     seen == 0
 }
 
-// The keys are reduced and strictly ascend: none falls short of the next, and the last is reduced.
+// The keys are reduced and strictly ascend: each is below the next, and the last is reduced.
 fn is_keyed(book: &[u32], object: usize) -> bool
     requires { ⌜ (length (now book) ≡ 3937) × (object < 16) × ObjectPacked (now book) object ⌝ }
     ensures { λ r. ⌜ (r ≡ true) ↔ Keyed (rowsAt (now (book .entry)) object) ⌝ }
@@ -83,7 +83,8 @@ fn is_keyed(book: &[u32], object: usize) -> bool
     let last = count - 1;
     let mut falling = false;
     for i in 0..last {
-        falling = falling | (book[rows + 2 * i + 2] <= book[rows + 2 * i]);
+        let at = rows + 2 * i;
+        falling = falling | (book[at + 2] <= book[at]);
     }
     !falling && book[rows + 2 * last] < layout::KEYS
 }
@@ -152,16 +153,18 @@ fn open_at(part: &mut [u32], at: usize, key: u32, value: u32)
     let mut carried_value = value;
     let mut i = at;
     while i < count {
-        let next_key = part[2 + 2 * i];
-        let next_value = part[3 + 2 * i];
-        part[2 + 2 * i] = carried_key;
-        part[3 + 2 * i] = carried_value;
+        let place = 2 + 2 * i;
+        let next_key = part[place];
+        let next_value = part[place + 1];
+        part[place] = carried_key;
+        part[place + 1] = carried_value;
         carried_key = next_key;
         carried_value = next_value;
         i += 1;
     }
-    part[2 + 2 * count] = carried_key;
-    part[3 + 2 * count] = carried_value;
+    let end = 2 + 2 * count;
+    part[end] = carried_key;
+    part[end + 1] = carried_value;
     part[1] = (count + 1) as u32;
 }
 
@@ -173,14 +176,16 @@ fn close_at(part: &mut [u32], at: usize)
     let last = layout::wide(part[1]) - 1;
     let mut i = at;
     while i < last {
-        let next_key = part[4 + 2 * i];
-        let next_value = part[5 + 2 * i];
-        part[2 + 2 * i] = next_key;
-        part[3 + 2 * i] = next_value;
+        let place = 2 + 2 * i;
+        let next_key = part[place + 2];
+        let next_value = part[place + 3];
+        part[place] = next_key;
+        part[place + 1] = next_value;
         i += 1;
     }
-    part[2 + 2 * last] = 0;
-    part[3 + 2 * last] = 0;
+    let end = 2 + 2 * last;
+    part[end] = 0;
+    part[end + 1] = 0;
     part[1] = last as u32;
 }
 
@@ -228,11 +233,11 @@ fn modify(part: &mut [u32], key: u32, value: u32)
 {
     let at = position(part, key);
     if present(part, at, key) {
-        part[3 + 2 * at] = value;
+        part[2 + 2 * at + 1] = value;
     }
 }
 
-// Folds an operation into the object that the part starts with: only the words that differ are written.
+// Folds an operation into the object that the part starts with, in place: no row before the one touched is written.
 fn fold_part(part: &mut [u32], operation: Operation)
     requires { ⌜ StartsPacked (now part) × (length (nextOf operation (rowsIn (now part))) ≤ 64) ⌝ }
     ensures { λ r. ⌜ now (part .exit) ≡ withRows (now (part .entry)) (nextOf operation (rowsIn (now (part .entry)))) ⌝ }

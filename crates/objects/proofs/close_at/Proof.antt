@@ -72,14 +72,10 @@ close-at-spec =
     (λ c. search needs)
     (λ c. search needs)
     (λ c. search needs)
-    (λ c. search needs)
-    (λ c. search needs)
-    (λ c. search needs)
     slice-write-part-2
     (λ c. search needs)
     (λ c. search needs)
     loop-again
-    (λ c. search needs)
     (λ c. search needs)
     (λ c. search needs)
     (λ c. search needs)

@@ -3,6 +3,7 @@ use Prim.Native.Nat.{ℕ}
 use mathlib.Core.Path.{_≡_, sym, ap, _∙_}
 use mathlib.Core.Bool.{true}
 use mathlib.Core.List.{List}
+use native.Mathlib.Omega.{arith}
 use borrow.Author.Needs.{needs}
 use Rattle.operations.specs.Operations.{present}
 use Rattle.replay.specs.Replay.{positionOf}
@@ -27,7 +28,7 @@ found c = sym (c .before .present .ensures) ∙ c .if1 .taken
 close-at-requires : tie.Need-close-at-requires
 close-at-requires c κs =
     let p = c .before .before in
-    (start p .pre, within (part p) (start p .args .key) _ (here p) (found (c .before)))
+    (start p .pre, omega (arith, within (part p) (start p .args .key) _ (here p) (found (c .before))))
 
 returns : tie.Need-returns
 returns c =

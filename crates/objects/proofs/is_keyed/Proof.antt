@@ -79,8 +79,6 @@ is-keyed-spec =
     (λ c. search needs)
     (λ c. search needs)
     (λ c. search needs)
-    (λ c. search needs)
-    (λ c. search needs)
     loop-again
     (λ c. search needs)
     (λ c. search needs)

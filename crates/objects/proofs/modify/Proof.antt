@@ -35,6 +35,9 @@ mul-part c = omega (arith, below c, start (c .before) .pre .rows)
 add-part : tie.Need-add-part
 add-part c = omega (arith, below c, start (c .before) .pre .rows)
 
+add-part-2 : tie.Need-add-part-2
+add-part-2 c = omega (arith, below c, start (c .before) .pre .rows)
+
 mul-part-2 : tie.Need-mul-part-2
 mul-part-2 c = omega (arith, below c, start (c .before) .pre .rows)
 
@@ -57,6 +60,7 @@ modify-spec =
     (λ c κs. search needs)
     mul-part
     add-part
+    add-part-2
     mul-part-2
     slice-write-part
     (λ c. search needs)

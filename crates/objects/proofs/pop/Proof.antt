@@ -1,5 +1,6 @@
 -- `objects::pop`: the last row, where there is one.
 use mathlib.Core.Path.{ap, _∙_}
+use native.Mathlib.Omega.{arith}
 use borrow.Author.Needs.{needs}
 use Rattle.objects.specs.Objects.{withRows}
 use Rattle.objects.specs.Laws.Writing.{kept, last-removed, none-removed}
@@ -11,7 +12,7 @@ returns c =
     let closed = c .before .before in
     let wide = closed .before .before .before in
     let part = wide .before .before .before .args .part .now in
-    closed .close-at .ensures ∙ ap (withRows part) (last-removed part _ (wide .wide .ensures) (closed .before .before .if1 .taken))
+    closed .close-at .ensures ∙ ap (withRows part) (last-removed part _ (wide .wide .ensures) (omega (arith, closed .before .before .if1 .taken)))
 
 returns-2 : tie.Need-returns-2
 returns-2 c =

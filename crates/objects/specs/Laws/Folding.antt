@@ -27,14 +27,14 @@ use Rattle.objects.specs.Laws.Writing.{rows-count}
 
 -- ---- The object that a part starts with
 
-rows-tabulated : (w : List ℕ) → tabulate (word w 1) (λ i. row (word w (2 + 2 * i)) (word w (3 + 2 * i))) ≡ rowsIn w
+rows-tabulated : (w : List ℕ) → tabulate (word w 1) (λ i. row (word w (2 + 2 * i)) (word w (2 + 2 * i + 1))) ≡ rowsIn w
 rows-tabulated w =
     tabulate-list (rowsIn w) (rowOf []) (word w 1) _ (rows-count w)
     (λ i l. sym (List·getD-map rowOf (pairsIn w) i [] ∙ ap rowOf (getD-tabulate (word w 1) _ i [] l)))
 
 module _ (w : List ℕ) (long : 130 ≤ length w) (few : word w 1 ≤ 64) (unused : (i : ℕ) → 2 * word w 1 ≤ i → i < 128 → word w (2 + i) ≡ 0) where
   abbrev rows : List Row
-  rows = tabulate (word w 1) (λ i. row (word w (2 + 2 * i)) (word w (3 + 2 * i)))
+  rows = tabulate (word w 1) (λ i. row (word w (2 + 2 * i)) (word w (2 + 2 * i + 1)))
 
   count : length rows ≡ word w 1
   count = length-tabulate (word w 1) _
@@ -42,7 +42,7 @@ module _ (w : List ℕ) (long : 130 ≤ length w) (few : word w 1 ≤ 64) (unuse
   rows-words : (p : ℕ) → p < 128 → word (padded 128 (joined rowWords rows)) p ≡ word w (2 + p)
   rows-words =
       padded-same rowWords 2 128 (word w 1) _ (λ (p : ℕ). word w (2 + p)) (λ i l. refl)
-      (λ i j l. each (λ (j : ℕ). word (rowWords (row (word w (2 + 2 * i)) (word w (3 + 2 * i)))) j ≡ word w (2 + (2 * i + j))) 2
+      (λ i j l. each (λ (j : ℕ). word (rowWords (row (word w (2 + 2 * i)) (word w (2 + 2 * i + 1)))) j ≡ word w (2 + (2 * i + j))) 2
       (ap (word w) (omega arith), (ap (word w) (omega arith), tt)) j)
       unused
 
@@ -76,9 +76,9 @@ module _ (w : List ℕ) (o : ℕ) where
 
   part-rows : rowsIn partAt ≡ rowsAt w o
   part-rows =
-      sym (rows-tabulated partAt) ∙ ap (λ (n : ℕ). tabulate n (λ i. row (word partAt (2 + 2 * i)) (word partAt (3 + 2 * i)))) (part-word 1)
+      sym (rows-tabulated partAt) ∙ ap (λ (n : ℕ). tabulate n (λ i. row (word partAt (2 + 2 * i)) (word partAt (2 + 2 * i + 1)))) (part-word 1)
       ∙ tabulate-same (word w (objectStart o + 1)) _ (rowAt w o)
-      (λ i l. ap₂ row (part-word (2 + 2 * i) ∙ ap (word w) (omega arith)) (part-word (3 + 2 * i) ∙ ap (word w) (omega arith)))
+      (λ i l. ap₂ row (part-word (2 + 2 * i) ∙ ap (word w) (omega arith)) (part-word (2 + 2 * i + 1) ∙ ap (word w) (omega arith)))
 
   module _ (packed : Packed base w) (l : o < 16) where
     pub part-ready : (operation : Operation) → length (nextOf operation (rowsAt w o)) ≤ 64

@@ -48,7 +48,7 @@ rows-read (r ∷ rs) rest (suc i) l =
     rw e (rows-read rs rest i (omega arith))
 
 -- Kind, number of rows, rows, and what follows.
-abbrev pub laid : ℕ → ℕ → List Row → List ℕ → List ℕ
+abbrev laid : ℕ → ℕ → List Row → List ℕ → List ℕ
 laid kind n rs rest = kind ∷ n ∷ (joined rowWords rs ++ rest)
 
 module _ (kind n : ℕ) (rs : List Row) (rest : List ℕ) where
@@ -61,23 +61,23 @@ module _ (kind n : ℕ) (rs : List Row) (rest : List ℕ) where
     two : 2 + 2 * i ≡ suc (suc (2 * i))
     two = omega arith
 
-    three : 3 + 2 * i ≡ suc (suc (suc (2 * i)))
+    three : 2 + 2 * i + 1 ≡ suc (suc (suc (2 * i)))
     three = omega arith
 
-    laid-stored : (k v : ℕ) → set (set (laid kind n rs rest) (2 + 2 * i) k) (3 + 2 * i) v ≡ laid kind n (set rs i (row k v)) rest
-    laid-stored k v = rw (two, three) (ap (λ (w : List ℕ). kind ∷ n ∷ w) (rows-stored rs rest i k v l))
+    laid-stored : (k v : ℕ) → set (set (laid kind n rs rest) (2 + 2 * i) k) (2 + 2 * i + 1) v ≡ laid kind n (set rs i (row k v)) rest
+    laid-stored k v = rw (three, two) (ap (λ (w : List ℕ). kind ∷ n ∷ w) (rows-stored rs rest i k v l))
 
     laid-key : word (laid kind n rs rest) (2 + 2 * i) ≡ rowAt rs i .key
     laid-key = rw two (rows-read rs rest i l .0)
 
-    laid-value : word (laid kind n rs rest) (3 + 2 * i) ≡ rowAt rs i .value
+    laid-value : word (laid kind n rs rest) (2 + 2 * i + 1) ≡ rowAt rs i .value
     laid-value = rw three (rows-read rs rest i l .1)
 
 -- The row past the last.
 laid-pushed : (kind n : ℕ) (rs : List Row) (rest : List ℕ) (x y k v : ℕ)
-    → set (set (laid kind n rs (x ∷ y ∷ rest)) (2 + 2 * length rs) k) (3 + 2 * length rs) v ≡ laid kind n (rs ++ (row k v ∷ [])) rest
+    → set (set (laid kind n rs (x ∷ y ∷ rest)) (2 + 2 * length rs) k) (2 + 2 * length rs + 1) v ≡ laid kind n (rs ++ (row k v ∷ [])) rest
 laid-pushed kind n rs rest x y k v =
-    ap (λ (w : List ℕ). set (set w (2 + 2 * length rs) k) (3 + 2 * length rs) v) (sym (laid-snoc kind n rs rest (row x y)))
+    ap (λ (w : List ℕ). set (set w (2 + 2 * length rs) k) (2 + 2 * length rs + 1) v) (sym (laid-snoc kind n rs rest (row x y)))
     ∙ laid-stored kind n (rs ++ (row x y ∷ [])) rest (length rs) (simp length-append (omega arith)) k v
     ∙ ap (λ (q : List Row). laid kind n q rest) (set-append-seam rs (row x y) [] (row k v))
 
@@ -102,7 +102,7 @@ pub record Stands (w part : List ℕ) (rs : List Row) : Type 0 where
   pub count : length rs ≡ word w 1
   pub words : part ≡ laid (word w 0) (word w 1) rs (zeros (word w 1) (drop 130 w))
 
-pub stands-start : (w : List ℕ) → StartsPacked w → Stands w w (rowsIn w)
+stands-start : (w : List ℕ) → StartsPacked w → Stands w w (rowsIn w)
 stands-start w packed =
     record {
       count = rows-count w;
@@ -110,32 +110,32 @@ stands-start w packed =
     }
 
 module _ (w part : List ℕ) (rs : List Row) (s : Stands w part rs) where
-  pub stands-end : part ≡ withRows w rs
+  stands-end : part ≡ withRows w rs
   stands-end = s .words ∙ sym (object-laid (word w 0) rs (drop 130 w) (word w 1) (s .count))
 
   module _ (i : ℕ) (l : i < word w 1) where
-    stands-stored : (k v : ℕ) → Stands w (set (set part (2 + 2 * i) k) (3 + 2 * i) v) (set rs i (row k v))
+    stands-stored : (k v : ℕ) → Stands w (set (set part (2 + 2 * i) k) (2 + 2 * i + 1) v) (set rs i (row k v))
     stands-stored k v =
         record {
           count = length-set rs i (row k v) ∙ s .count;
-          words = ap (λ (q : List ℕ). set (set q (2 + 2 * i) k) (3 + 2 * i) v) (s .words)
+          words = ap (λ (q : List ℕ). set (set q (2 + 2 * i) k) (2 + 2 * i + 1) v) (s .words)
               ∙ laid-stored (word w 0) (word w 1) rs (zeros (word w 1) (drop 130 w)) i (omega (arith, s .count)) k v;
         }
 
-    stands-read : row (word part (2 + 2 * i)) (word part (3 + 2 * i)) ≡ rowAt rs i
+    stands-read : row (word part (2 + 2 * i)) (word part (2 + 2 * i + 1)) ≡ rowAt rs i
     stands-read =
         let within : i < length rs = omega (arith, s .count) in
         let rest = zeros (word w 1) (drop 130 w) in
-        ap (λ (q : List ℕ). row (word q (2 + 2 * i)) (word q (3 + 2 * i))) (s .words)
+        ap (λ (q : List ℕ). row (word q (2 + 2 * i)) (word q (2 + 2 * i + 1))) (s .words)
         ∙ ap₂ row (laid-key (word w 0) (word w 1) rs rest i within) (laid-value (word w 0) (word w 1) rs rest i within)
 
 -- One row's second word.
 value-stored : (w : List ℕ) (i k v : ℕ) → StartsPacked w → i < word w 1 → rowAt (rowsIn w) i .key ≡ k
-    → set w (3 + 2 * i) v ≡ withRows w (set (rowsIn w) i (row k v))
+    → set w (2 + 2 * i + 1) v ≡ withRows w (set (rowsIn w) i (row k v))
 value-stored w i k v packed l e =
     let start = stands-start w packed in
     let same : word w (2 + 2 * i) ≡ k = ap (λ (r : Row). r .key) (stands-read w w (rowsIn w) start i l) ∙ e in
-    ap (λ (q : List ℕ). set q (3 + 2 * i) v) (sym (set-getD w (2 + 2 * i) 0) ∙ ap (set w (2 + 2 * i)) same)
+    ap (λ (q : List ℕ). set q (2 + 2 * i + 1) v) (sym (set-getD w (2 + 2 * i) 0) ∙ ap (set w (2 + 2 * i)) same)
     ∙ stands-end w _ _ (stands-stored w w (rowsIn w) start i l k v)
 
 -- ---- A gap opened: the carried row, put in at i of the rows that stand, gives the rows that are to be
@@ -147,14 +147,14 @@ pub opening-start : (w : List ℕ) (i : ℕ) (r : Row) → StartsPacked w → Op
 opening-start w i r packed = (rowsIn w, stands-start w packed, refl)
 
 module _ (w : List ℕ) (target : List Row) (part : List ℕ) (i k v : ℕ) (opening : Opening w target part i (row k v)) where
-  pub opening-next : i < word w 1 → Opening w target (set (set part (2 + 2 * i) k) (3 + 2 * i) v) (i + 1) (row (word part (2 + 2 * i)) (word part (3 + 2 * i)))
+  pub opening-next : i < word w 1 → Opening w target (set (set part (2 + 2 * i) k) (2 + 2 * i + 1) v) (i + 1) (row (word part (2 + 2 * i)) (word part (2 + 2 * i + 1)))
   opening-next l =
       let rs = opening .0 in
       let s = opening .1 in
       let within : i < length rs = omega (arith, s .count) in
       (set rs i (row k v), stands-stored w part rs s i l k v, rw (add-one, stands-read w part rs s i l) (put-next rs i (row k v) (row 0 0) within ∙ opening .2))
 
-  pub opening-end : (n : ℕ) → n ≡ word w 1 → i ≡ n → n < 64 → set (set (set part (2 + 2 * n) k) (3 + 2 * n) v) 1 (n + 1) ≡ withRows w target
+  pub opening-end : (n : ℕ) → n ≡ word w 1 → i ≡ n → n < 64 → set (set (set part (2 + 2 * n) k) (2 + 2 * n + 1) v) 1 (n + 1) ≡ withRows w target
   opening-end n size at l =
       let rs = opening .0 in
       let s = opening .1 in
@@ -165,8 +165,8 @@ module _ (w : List ℕ) (target : List Row) (part : List ℕ) (i k v : ℕ) (ope
       s .words ∙ ap (λ (m : ℕ). laid kind m rs (zeros m rest)) (sym size) ∙ ap (laid kind n rs) (zeros-two n rest l) in
       let rows : rs ++ (row k v ∷ []) ≡ target = sym (put-last rs (row k v)) ∙ ap (λ (m : ℕ). putAt m (row k v) rs) (count ∙ sym at) ∙ opening .2 in
       let more : length target ≡ n + 1 = ap length (sym rows) ∙ length-append rs (row k v ∷ []) ∙ ap (λ (m : ℕ). m + 1) count in
-      ap (λ (q : List ℕ). set (set (set q (2 + 2 * n) k) (3 + 2 * n) v) 1 (n + 1)) words
-      ∙ ap (λ (m : ℕ). set (set (set (laid kind n rs (0 ∷ 0 ∷ zeros (n + 1) rest)) (2 + 2 * m) k) (3 + 2 * m) v) 1 (n + 1)) (sym count)
+      ap (λ (q : List ℕ). set (set (set q (2 + 2 * n) k) (2 + 2 * n + 1) v) 1 (n + 1)) words
+      ∙ ap (λ (m : ℕ). set (set (set (laid kind n rs (0 ∷ 0 ∷ zeros (n + 1) rest)) (2 + 2 * m) k) (2 + 2 * m + 1) v) 1 (n + 1)) (sym count)
       ∙ ap (λ (q : List ℕ). set q 1 (n + 1)) (laid-pushed kind n rs (zeros (n + 1) rest) 0 0 k v)
       ∙ ap (λ (q : List Row). laid kind (n + 1) q (zeros (n + 1) rest)) rows
       ∙ sym (object-laid kind target rest (n + 1) more)
@@ -180,18 +180,18 @@ pub closing-start : (w : List ℕ) (i : ℕ) → StartsPacked w → Closing w (r
 closing-start w i packed = (rowsIn w, stands-start w packed, refl)
 
 module _ (w : List ℕ) (target : List Row) (part : List ℕ) (i : ℕ) (closing : Closing w target part i) where
-  pub closing-next : i + 1 < word w 1 → Closing w target (set (set part (2 + 2 * i) (word part (4 + 2 * i))) (3 + 2 * i) (word part (5 + 2 * i))) (i + 1)
+  pub closing-next : i + 1 < word w 1 → Closing w target (set (set part (2 + 2 * i) (word part (2 + 2 * i + 2))) (2 + 2 * i + 1) (word part (2 + 2 * i + 3))) (i + 1)
   closing-next l =
       let rs = closing .0 in
       let s = closing .1 in
-      let next : row (word part (4 + 2 * i)) (word part (5 + 2 * i)) ≡ rowAt rs (suc i) =
+      let next : row (word part (2 + 2 * i + 2)) (word part (2 + 2 * i + 3)) ≡ rowAt rs (suc i) =
       ap₂ (λ (a b : ℕ). row (word part a) (word part b)) (omega arith) (omega arith) ∙ stands-read w part rs s (i + 1) l ∙ ap (rowAt rs) (add-one i) in (
-        set rs i (row (word part (4 + 2 * i)) (word part (5 + 2 * i))),
+        set rs i (row (word part (2 + 2 * i + 2)) (word part (2 + 2 * i + 3))),
         stands-stored w part rs s i (omega arith) _ _,
         rw (add-one, next) (removed-next rs i (row 0 0) (omega (arith, s .count)) ∙ closing .2),
       )
 
-  pub closing-end : (last : ℕ) → i ≡ last → last + 1 ≡ word w 1 → word w 1 ≤ 64 → set (set (set part (2 + 2 * last) 0) (3 + 2 * last) 0) 1 last ≡ withRows w target
+  pub closing-end : (last : ℕ) → i ≡ last → last + 1 ≡ word w 1 → word w 1 ≤ 64 → set (set (set part (2 + 2 * last) 0) (2 + 2 * last + 1) 0) 1 last ≡ withRows w target
   closing-end last at size l =
       let rs = closing .0 in
       let s = closing .1 in
@@ -242,7 +242,7 @@ module _ (w : List ℕ) (k at : ℕ) (here : at ≡ positionOf k (rowsIn w)) whe
   pub removed-deleted : present k (rowsIn w) ≡ true → removedAt at (rowsIn w) ≡ deleted k (rowsIn w)
   removed-deleted h = rw here (sym (there k (rowsIn w) h .deletes))
 
-  pub stored-modified : StartsPacked w → (v : ℕ) → present k (rowsIn w) ≡ true → set w (3 + 2 * at) v ≡ withRows w (modified k v (rowsIn w))
+  pub stored-modified : StartsPacked w → (v : ℕ) → present k (rowsIn w) ≡ true → set w (2 + 2 * at + 1) v ≡ withRows w (modified k v (rowsIn w))
   stored-modified packed v h =
       let t = there k (rowsIn w) h in
       value-stored w at k v packed (within h) (rw here (t .key)) ∙ ap (withRows w) (ap (λ (m : ℕ). set (rowsIn w) m (row k v)) here ∙ sym (t .modifies v))
