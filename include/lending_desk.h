@@ -20,7 +20,8 @@ extern "C" {
 enum {
     LENDING_DESK_WORDS = 3937, /* words of a book */
     LENDING_DESK_OBJECTS = 16, /* objects 0 to 15, each of a kind */
-    LENDING_DESK_LIST = 64     /* bytes that the list lent to finish and cancel has at least */
+    LENDING_DESK_LIST = 64,    /* bytes that the list lent to finish and cancel has at least */
+    LENDING_DESK_FRAME = 10240 /* bytes of stack that a call takes at the most: measured, and not proved */
 };
 
 /* Kinds of objects, for set up. */

@@ -12,6 +12,8 @@ mod scripts;
 mod stack;
 mod timing;
 
+use timing::Times;
+
 fn main() {
     let arguments: Vec<String> = env::args().skip(1).collect();
     let arguments: Vec<&str> = arguments.iter().map(String::as_str).collect();
@@ -24,18 +26,19 @@ fn main() {
     }
 }
 
-/// The table of times, in nanoseconds of a call or of a script's line.
+/// The table of times, in nanoseconds of a call or of a script's line, and what the proved one is in passes over a book.
 fn times(part: &str) {
     let rows: Vec<_> = rows::named(part).collect();
     let prepared: Vec<_> = rows.iter().map(|row| row.prepared()).collect();
+    let Times { calls, pass } = timing::times(&prepared);
     let mut ratios = Vec::new();
     let mut print = |name: &str, [proved, second]: [f64; 2]| {
-        let ratio = proved / second;
-        println!("{name:32}{proved:10.0}{second:10.0}{ratio:8.2}");
+        let (ratio, passes) = (proved / second, proved / pass);
+        println!("{name:32}{proved:10.0}{second:10.0}{ratio:8.2}{passes:8.1}");
         ratios.push(ratio);
     };
-    println!("{:32}{:>10}{:>10}{:>8}", "nanoseconds", "proved", "second", "ratio");
-    for (row, times) in rows.iter().zip(timing::times(&prepared)) {
+    println!("{:32}{:>10}{:>10}{:>8}{:>8}", "nanoseconds", "proved", "second", "ratio", "passes");
+    for (row, times) in rows.iter().zip(calls) {
         print(&row.name, times);
     }
     for profile in scripts::PROFILES.iter().filter(|profile| profile.name.contains(part)) {
@@ -47,15 +50,16 @@ fn times(part: &str) {
     }
     let worst = ratios.iter().copied().fold(0.0, f64::max);
     let mean = (ratios.iter().map(|ratio| ratio.ln()).sum::<f64>() / ratios.len() as f64).exp();
-    println!("worst ratio {worst:.2}, mean ratio {mean:.2}");
+    println!("worst ratio {worst:.2}, mean ratio {mean:.2}; one pass {pass:.0}");
 }
 
-/// The table of stack used, in bytes.
+/// The table of stack used, in bytes. The header says how much a call takes at the most.
 fn stack(part: &str) {
     println!("{:32}{:>10}{:>10}", "bytes of stack", "proved", "second");
     for row in rows::named(part) {
         let [proved, second] = stack::used(&row.prepared());
         println!("{:32}{proved:10}{second:10}", row.name);
+        assert!(proved <= lending_desk::FRAME, "{}: more stack than the header says", row.name);
     }
 }
 

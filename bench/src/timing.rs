@@ -1,7 +1,9 @@
 //! Times of calls, of both implementations in turn.
 
+use std::hint::black_box;
 use std::time::Instant;
 
+use crate::books::WORDS;
 use crate::calls::{self, Serve};
 use crate::rows::Prepared;
 
@@ -9,16 +11,26 @@ use crate::rows::Prepared;
 const ROUNDS: usize = 151;
 const ROUND: f64 = 1e6;
 
-/// Nanoseconds of a call of each row, proved and second: medians of the rounds, in which the two go first in turn. A
-/// round times every row, so that a while in which the machine is slow is no row's alone. The clock's own time is taken
-/// off.
-pub fn times(rows: &[Prepared]) -> Vec<[f64; 2]> {
+/// How many passes over a book are timed together, since one takes only a few of the clock's steps.
+const PASSES: usize = 64;
+
+/// Nanoseconds: of a call of each row, proved and second, and of one pass over a book.
+pub struct Times {
+    pub calls: Vec<[f64; 2]>,
+    pub pass: f64,
+}
+
+/// Medians of the rounds, in which the two implementations go first in turn. A round times every row, so that a while
+/// in which the machine is slow is no row's alone. The clock's own time is taken off.
+pub fn times(rows: &[Prepared]) -> Times {
     let sides: [Serve; 2] = [calls::proved, calls::second];
     let calls: Vec<usize> =
         rows.iter().map(|row| (ROUND / median(timed(sides[0], row, 100))).ceil() as usize).collect();
     let mut rounds = vec![[Vec::new(), Vec::new()]; rows.len()];
     let mut clock = vec![Vec::new(); rows.len()];
+    let (book, mut passes) = (vec![0; WORDS], Vec::new());
     for round in 0..ROUNDS {
+        passes.push(pass(&book));
         for (number, row) in rows.iter().enumerate() {
             clock[number].push(median(timed(calls::nothing, row, calls[number])));
             for side in [round % 2, (round + 1) % 2] {
@@ -27,7 +39,17 @@ pub fn times(rows: &[Prepared]) -> Vec<[f64; 2]> {
         }
     }
     let clock = clock.into_iter().map(median);
-    rounds.into_iter().zip(clock).map(|(times, clock)| times.map(|times| median(times) - clock)).collect()
+    let calls = rounds.into_iter().zip(clock).map(|(times, clock)| times.map(|times| median(times) - clock)).collect();
+    Times { calls, pass: median(passes) }
+}
+
+/// Nanoseconds of a plain sum of a book's words: what any check of the whole book takes at the least.
+fn pass(book: &[u32]) -> f64 {
+    let start = Instant::now();
+    for _ in 0..PASSES {
+        black_box(black_box(book).iter().fold(0u32, |sum, word| sum.wrapping_add(*word)));
+    }
+    start.elapsed().as_nanos() as f64 / PASSES as f64
 }
 
 /// Nanoseconds of each of so many calls, on a fresh copy of the book that is made before the clock is read.

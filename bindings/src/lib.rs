@@ -15,6 +15,9 @@ pub const OBJECTS: usize = 16;
 /// The least length of the list lent to finish and cancel.
 pub const LIST: usize = 64;
 
+/// Bytes of stack that a call takes at the most: measured, and not proved. The library asks for no other memory.
+pub const FRAME: usize = 10_240;
+
 /// Why a call is refused, by number; `include/lending_desk.h` has the reasons.
 #[derive(Clone, Copy, Debug, PartialEq, Eq, PartialOrd, Ord, Hash)]
 pub struct Refusal(pub u32);

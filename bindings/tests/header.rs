@@ -10,10 +10,11 @@ use std::ptr::addr_of;
 use common::{built, printed, run};
 use lending_desk::raw::{Accepted, Ended, Operated, Part};
 
-const NUMBERS: [(&str, usize); 36] = [
+const NUMBERS: [(&str, usize); 37] = [
     ("WORDS", lending_desk::WORDS),
     ("OBJECTS", lending_desk::OBJECTS),
     ("LIST", lending_desk::LIST),
+    ("FRAME", lending_desk::FRAME),
     ("NONE", 0),
     ("STACK", 1),
     ("SET", 2),

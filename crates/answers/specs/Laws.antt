@@ -1,5 +1,5 @@
 pub mod Entries
-pub mod Links
 pub mod Replay
+pub mod Counting
 pub mod Whole
 pub mod Requests

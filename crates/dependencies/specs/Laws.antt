@@ -1,8 +1,7 @@
 pub mod Sets
 pub mod Entries
 pub mod Numbers
-pub mod Firsts
+pub mod Columns
 pub mod Rows
 pub mod Barring
-pub mod Chains
 pub mod Gathering

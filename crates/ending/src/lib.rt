@@ -1,16 +1,14 @@
 // How a transaction ends, and who commits then.
 ghost use mathlib.Core.Path.{_≡_};
-ghost use mathlib.Core.Logic.{_↔_};
-ghost use Prim.Native.Nat.{ℕ, _<_, _≤_};
+ghost use Prim.Native.Nat.{_<_, _≤_};
 ghost use lib.ListN.{length};
 ghost use Rattle.store.specs.Store.{Active, pseudoCommittedCount};
 ghost use Rattle.store.specs.Layout.{Packed, base, decode, encode};
 ghost use Rattle.store.specs.Soundness.{EntriesFit, Room};
 ghost use Rattle.store.specs.Dependency.{Ready};
 ghost use Rattle.protocol.specs.Ending.{carriedOut, ended, commit as Commit, lowestReady, settledAll, committedFirst};
-ghost use Rattle.cycles.specs.Cycles.{EdgeIn};
 ghost use Rattle.layout.specs.Nobody.{Names};
-ghost use Rattle.ending.specs.Ending.{Tracked, Concluded};
+ghost use Rattle.ending.specs.Ending.{Tracked, Forgotten, Concluded};
 
 // Its entries leave the log, and ranks close up.
 fn end(book: &mut [u32], transaction: u32)
@@ -28,7 +26,8 @@ fn end(book: &mut [u32], transaction: u32)
 // Its entries are carried into the rows, in order.
 fn carry_out(book: &mut [u32], transaction: u32)
     requires { ⌜ Packed base (now book) × EntriesFit (decode base (now book)) × Room base (decode base (now book)) ⌝ }
-    ensures { λ r. ⌜ now (book .exit) ≡ encode base (carriedOut transaction (decode base (now (book .entry)) .log) (decode base (now (book .entry)))) ⌝ }
+    ensures { λ r. ⌜ now (book .exit) ≡ encode base (carriedOut transaction (decode base (now (book .entry)) .log)
+        (decode base (now (book .entry)))) ⌝ }
 {
     let count = layout::entry_count(book);
     for i in 0..count {
@@ -41,7 +40,8 @@ fn carry_out(book: &mut [u32], transaction: u32)
 }
 
 fn commit(book: &mut [u32], transaction: u32)
-    requires { ⌜ Packed base (now book) × (transaction < 64) × EntriesFit (decode base (now book)) × Room base (decode base (now book)) ⌝ }
+    requires { ⌜ Packed base (now book) × (transaction < 64) × EntriesFit (decode base (now book))
+        × Room base (decode base (now book)) ⌝ }
     ensures { λ r. ⌜ now (book .exit) ≡ encode base (Commit transaction (decode base (now (book .entry)))) ⌝ }
 {
     carry_out(book, transaction);
@@ -49,69 +49,93 @@ fn commit(book: &mut [u32], transaction: u32)
 }
 
 // The pseudo-committed one of lowest rank that depends on nobody.
-fn lowest_ready(book: &[u32], edges: &[u64; 64]) -> u32
-    requires { ⌜ Tracked (now book) (now edges) ⌝ }
+fn lowest_ready(book: &[u32], edges: &[u64; 64], finished: u64) -> u32
+    requires { ⌜ Tracked (now book) (now edges) finished ⌝ }
     ensures { λ r. ⌜ Names r (lowestReady (decode base (now (book .entry)))) ⌝ }
 {
     let mut lowest = layout::NOBODY;
     let mut rank = layout::NOBODY;
-    for transaction in 0..64u32 {
+    let mut left = finished;
+    while left != 0 {
+        let transaction = bitset::lowest(left);
         let status = statuses::status_word(book, transaction);
-        if status >= 2 && status - 2 < rank && cycles::ready(edges, transaction) {
+        if status - 2 < rank && cycles::ready(edges, transaction) {
             lowest = transaction;
             rank = status - 2;
         }
+        left = bitset::without(left, transaction);
     }
     lowest
 }
 
-// The dependencies once a transaction has ended.
-fn forget(edges: [u64; 64], transaction: u32) -> [u64; 64]
-    requires { ⌜ transaction < 64 ⌝ }
-    ensures { λ r. ⌜ ((a b : ℕ) → EdgeIn r a b ↔ (EdgeIn edges a b × (a ≡ transaction → ⊥) × (b ≡ transaction → ⊥))) ⌝ }
+// The dependencies become those once a transaction has ended.
+fn forget(edges: &mut [u64; 64], transaction: u32)
+    requires { ⌜ (length (now edges) ≡ 64) × (transaction < 64) ⌝ }
+    ensures { λ r. ⌜ Forgotten transaction (now (edges .entry)) (now (edges .exit)) ⌝ }
 {
-    let mut left = edges;
-    left[transaction as usize] = 0;
+    edges[transaction as usize] = 0;
     for a in 0..64usize {
-        left[a] = bitset::without(left[a], transaction);
+        edges[a] = bitset::without(edges[a], transaction);
     }
-    left
 }
 
 // The lowest ready one commits, until none is left. They go to the list's front.
-fn settle(book: &mut [u32], edges: [u64; 64], list: &mut [u8]) -> usize
-    requires { ⌜ Tracked (now book) edges × (pseudoCommittedCount (decode base (now book)) ≤ length (now list)) ⌝ }
-    ensures { λ r. ⌜ Concluded (settledAll (decode base (now (book .entry)))) (now (list .entry)) (now (book .exit)) (now (list .exit)) r ⌝ }
+fn settle(book: &mut [u32], edges: &mut [u64; 64], finished: u64, list: &mut [u8]) -> usize
+    requires { ⌜ Tracked (now book) (now edges) finished
+        × (pseudoCommittedCount (decode base (now book)) ≤ length (now list)) ⌝ }
+    ensures { λ r. ⌜ Concluded (settledAll (decode base (now (book .entry)))) (now (list .entry))
+        (now (book .exit)) (now (list .exit)) r ⌝ }
 {
-    let mut left = edges;
+    let mut left = finished;
     let mut count: usize = 0;
     loop {
-        let transaction = lowest_ready(book, &left);
+        let transaction = lowest_ready(book, edges, left);
         if transaction == layout::NOBODY {
             return count;
         }
         commit(book, transaction);
-        left = forget(left, transaction);
+        forget(edges, transaction);
+        left = bitset::without(left, transaction);
         list[count] = transaction as u8;
         count += 1;
     }
 }
 
-// Aborts an active transaction; those that then depend on nobody commit.
-pub fn abort(book: &mut [u32], transaction: u32, edges: [u64; 64], list: &mut [u8]) -> usize
-    requires { ⌜ Tracked (now book) edges × Active (decode base (now book)) transaction × (64 ≤ length (now list)) ⌝ }
-    ensures { λ r. ⌜ Concluded (settledAll (ended transaction (decode base (now (book .entry))))) (now (list .entry)) (now (book .exit)) (now (list .exit)) r ⌝ }
+// Aborts an active transaction; those that then depend on nobody commit. Of `edges`, on whom each depends, nothing is
+// said afterwards.
+pub fn abort(
+    book: &mut [u32],
+    transaction: u32,
+    edges: &mut [u64; 64],
+    finished: u64,
+    list: &mut [u8],
+) -> usize
+    requires { ⌜ Tracked (now book) (now edges) finished × Active (decode base (now book)) transaction
+        × (64 ≤ length (now list)) ⌝ }
+    ensures { λ r. ⌜ Concluded (settledAll (ended transaction (decode base (now (book .entry))))) (now (list .entry))
+        (now (book .exit)) (now (list .exit)) r ⌝ }
 {
     end(book, transaction);
-    settle(book, forget(edges, transaction), list)
+    forget(edges, transaction);
+    settle(book, edges, finished, list)
 }
 
 // Commits an active transaction that depends on nobody, and then those that do no more.
-pub fn commit_active(book: &mut [u32], transaction: u32, edges: [u64; 64], list: &mut [u8]) -> usize
-    requires { ⌜ Tracked (now book) edges × Active (decode base (now book)) transaction × Ready (decode base (now book) .log) transaction × (64 ≤ length (now list)) ⌝ }
-    ensures { λ r. ⌜ Concluded (committedFirst transaction (settledAll (Commit transaction (decode base (now (book .entry)))))) (now (list .entry)) (now (book .exit)) (now (list .exit)) r ⌝ }
+pub fn commit_active(
+    book: &mut [u32],
+    transaction: u32,
+    edges: &mut [u64; 64],
+    finished: u64,
+    list: &mut [u8],
+) -> usize
+    requires { ⌜ Tracked (now book) (now edges) finished × Active (decode base (now book)) transaction
+        × Ready (decode base (now book) .log) transaction × (64 ≤ length (now list)) ⌝ }
+    ensures { λ r. ⌜ Concluded
+        (committedFirst transaction (settledAll (Commit transaction (decode base (now (book .entry))))))
+        (now (list .entry)) (now (book .exit)) (now (list .exit)) r ⌝ }
 {
     commit(book, transaction);
+    forget(edges, transaction);
     list[0] = transaction as u8;
-    1 + settle(book, forget(edges, transaction), &mut list[1..])
+    1 + settle(book, edges, finished, &mut list[1..])
 }

@@ -34,7 +34,7 @@ module _ (r : ℕ) where
 
 -- ---- Zeros
 
-or-zero : (a b : ℕ) → bitOr a b ≡ 0 → (a ≡ 0) × (b ≡ 0)
+pub or-zero : (a b : ℕ) → bitOr a b ≡ 0 → (a ≡ 0) × (b ≡ 0)
 or-zero a b e =
     let sum = or-add-and a b in
     let left = and-le-l a b in

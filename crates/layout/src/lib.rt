@@ -6,7 +6,7 @@ ghost use mathlib.Core.Bool.{true};
 ghost use mathlib.Core.Logic.{_↔_};
 ghost use Prim.Native.Nat.{ℕ, _+_, _*_, _<_, _≤_};
 ghost use lib.ListN.{length, replicate};
-ghost use Rattle.store.specs.Layout.{word, tabulate, entryStart, objectStart, rowsAt};
+ghost use Rattle.store.specs.Layout.{word, tabulate, entryStart, objectStart, rowAt, rowsAt};
 ghost use Rattle.replay.specs.Replay.{rowsOf};
 ghost use Rattle.layout.specs.Rows.{rowIn};
 
@@ -99,6 +99,22 @@ pub fn row_count(book: &[u32], object: usize) -> usize
     ensures { λ r. ⌜ r ≡ word (now (book .entry)) (objectStart object + 1) ⌝ }
 {
     wide(book[FIRST_OBJECT + OBJECT * object + 1])
+}
+
+// A row's first word: an item or a key.
+pub fn row_key(book: &[u32], object: usize, row: usize) -> u32
+    requires { ⌜ (length (now book) ≡ 3937) × (object < 16) × (row < 64) ⌝ }
+    ensures { λ r. ⌜ r ≡ rowAt (now (book .entry)) object row .key ⌝ }
+{
+    book[FIRST_OBJECT + OBJECT * object + 2 + 2 * row]
+}
+
+// Its second word: a value, or 0.
+pub fn row_value(book: &[u32], object: usize, row: usize) -> u32
+    requires { ⌜ (length (now book) ≡ 3937) × (object < 16) × (row < 64) ⌝ }
+    ensures { λ r. ⌜ r ≡ rowAt (now (book .entry)) object row .value ⌝ }
+{
+    book[FIRST_OBJECT + OBJECT * object + 2 + 2 * row + 1]
 }
 
 // Whether all words are 0. No early way out, so that many words are taken at once.

@@ -1,5 +1,5 @@
 -- What the functions of the log say of the book's words.
-use Prim.Native.Nat.{ℕ, _+_, _≤_}
+use Prim.Native.Nat.{ℕ, _+_, _≤_, _<_}
 use mathlib.Core.Path.{_≡_}
 use mathlib.Core.Bool.{cond}
 use mathlib.Core.Option.{some}
@@ -12,6 +12,8 @@ use Rattle.operations.specs.declared.Operation.{Operation}
 use Rattle.operations.specs.declared.Reply.{Reply}
 use Rattle.store.specs.Store.{Logged, Live, objectOf}
 use Rattle.store.specs.Layout.{base, decode, joined, tabulate, word, orPop, entryStart, entryWords, entryAt}
+use Rattle.store.specs.Layout.{operationAt, AsStored}
+use Rattle.store.specs.Soundness.{EntriesLive, EntriesFit, KeysReduced}
 use Rattle.store.specs.Steps.{without}
 
 -- Number, key and value are what is stored for the operation that they are read as.
@@ -20,24 +22,46 @@ StoredWords number key value =
     let o = orPop (model.stored (λ k. k) number key value) in
     (model.numberOf o ≡ number) × (model.keyOf o ≡ key) × (model.valueOf o ≡ value)
 
+-- The number of entries is in range, and the words past them are 0: of `LogPacked`, all that is not asked of an entry.
+pub record LogBounded (w : List ℕ) : Type 0 where
+  pub entries : word w 0 ≤ 256
+  pub unused : (i : ℕ) → entryStart (word w 0) ≤ i → word w i ≡ 0
+
 -- The kind's word, by an operation's number.
 abbrev pub kindBy : ℕ → ℕ
 kindBy number = cond (ltb number 4) 1 (cond (ltb number 7) 2 3)
 
--- Entry i belongs to a live transaction, fits its object's kind, and its key is reduced.
+-- Entry i belongs to a live transaction,
+abbrev pub EntryLive : List ℕ → ℕ → Type 0
+EntryLive w i = Live (decode base w) (word w (entryStart i))
+
+-- fits its object's kind,
+abbrev pub EntryOfKind : List ℕ → ℕ → Type 0
+EntryOfKind w i = objectOf (decode base w) (word w (entryStart i + 1)) .kind ≡ some (model.kindOf (operationAt w i))
+
+-- and its key is reduced.
+abbrev pub KeyReduced : List ℕ → ℕ → Type 0
+KeyReduced w i = model.StoredKey model.reduceKey (operationAt w i)
+
+-- All that soundness asks of entry i alone.
 abbrev pub EntryFits : List ℕ → ℕ → Type 0
-EntryFits w i =
-    let s = decode base w in
-    let l = entryAt w i in
-    let o = l .entry .operation in
-    Live s (l .entry .transaction) × (objectOf s (l .object) .kind ≡ some (model.kindOf o)) × model.StoredKey model.reduceKey o
+EntryFits w i = AsStored w i × EntryLive w i × EntryOfKind w i × KeyReduced w i
+
+-- The same of every entry, in the words of soundness.
+pub record LogFits (w : List ℕ) : Type 0 where
+  pub asStored : (i : ℕ) → i < word w 0 → AsStored w i
+  pub live : EntriesLive (decode base w)
+  pub fits : EntriesFit (decode base w)
+  pub reduced : KeysReduced base (decode base w)
 
 -- The code's operation is what is stored for the model's.
 abbrev pub StoredAs : Operation → model.Operation → Type 0
-StoredAs operation o = (operation .number ≡ model.numberOf o) × (operation .key ≡ model.keyOf o) × (operation .value ≡ model.valueOf o)
+StoredAs operation o =
+    (operation .number ≡ model.numberOf o) × (operation .key ≡ model.keyOf o) × (operation .value ≡ model.valueOf o)
 
 abbrev pub logged : ℕ → ℕ → model.Operation → model.Reply → Logged
-logged transaction object o answer = record { object = object; entry = record { transaction = transaction; operation = o; answer = answer } }
+logged transaction object o answer =
+    record { object = object; entry = record { transaction = transaction; operation = o; answer = answer } }
 
 -- An entry's words: of its parts, and read from the book.
 abbrev pub wordsOf : ℕ → ℕ → Operation → Reply → List ℕ
@@ -47,7 +71,8 @@ wordsOf transaction object operation answer =
 abbrev pub wordsAt : List ℕ → ℕ → List ℕ
 wordsAt w i =
     let start = entryStart i in
-    word w start ∷ word w (start + 1) ∷ word w (start + 2) ∷ word w (start + 3) ∷ word w (start + 4) ∷ word w (start + 5) ∷ word w (start + 6) ∷ []
+    word w start ∷ word w (start + 1) ∷ word w (start + 2) ∷ word w (start + 3)
+    ∷ word w (start + 4) ∷ word w (start + 5) ∷ word w (start + 6) ∷ []
 
 -- The entries before entry i that are not the transaction's.
 abbrev pub others : List ℕ → ℕ → ℕ → List Logged

@@ -4,54 +4,45 @@ use operations::Reply;
 ghost use mathlib.Core.Path.{_≡_};
 ghost use mathlib.Core.Logic.{_↔_};
 ghost use mathlib.Core.Bool.{true};
-ghost use mathlib.Core.Option.{some};
-ghost use Prim.Native.Nat.{ℕ, _+_, _-_, _≤_, _<_};
+ghost use Prim.Native.Nat.{_+_, _-_, _≤_, _<_};
 ghost use lib.ListN.{length, replicate};
 ghost use lib.Seq.{sets};
 ghost use Rattle.bitset.specs.Bitset.{Holds};
 ghost use Rattle.operations.specs.Operations as model;
 ghost use Rattle.operations.specs.Stored.{asReply};
-ghost use Rattle.store.specs.Store.{Live, objectOf};
-ghost use Rattle.store.specs.Layout.{Packed, base, encode, decode, word, entryStart, operationAt, AsStored, LogPacked};
+ghost use Rattle.store.specs.Store.{Live};
+ghost use Rattle.store.specs.Layout.{Packed, base, encode, decode, word, entryStart, AsStored};
 ghost use Rattle.store.specs.Steps.{appended, dropped};
-ghost use Rattle.store.specs.Soundness.{EntriesLive, EntriesFit, KeysReduced};
-ghost use Rattle.log.specs.Log.{StoredWords, kindBy, EntryFits, StoredAs, logged, wordsOf, wordsAt, Gathered};
+ghost use Rattle.log.specs.Log.{StoredWords, LogBounded, kindBy};
+ghost use Rattle.log.specs.Log.{EntryLive, EntryOfKind, KeyReduced, EntryFits, LogFits};
+ghost use Rattle.log.specs.Log.{StoredAs, logged, wordsOf, wordsAt, Gathered};
 
-// Whether the words are those that are stored for an operation: its number is in range, and an argument that it does not use is 0.
+// Operations that use no key or item, and those that use no value: bit n stands for operation n.
+const KEYLESS: u32 = 0b0100_0000_1100;
+
+const VALUELESS: u32 = 0b0111_0111_1110;
+
+// Whether the words are those that are stored for an operation: its number is in range, and an argument that it does
+// not use is 0.
 fn is_stored(operation: Operation) -> bool
     ensures { λ r. ⌜ (r ≡ true) ↔ StoredWords (operation .number) (operation .key) (operation .value) ⌝ }
 {
     let number = operation.number;
-    match number {
-        1 | 4 | 5 | 6 | 8 | 9 => operation.value == 0,
-        2 | 3 | 10 => operation.key == 0 && operation.value == 0,
-        7 | 11 => true,
-        _ => false,
+    if number == 0 || number > 11 {
+        return false;
     }
+    let key = ((KEYLESS >> number) & 1) * operation.key;
+    let value = ((VALUELESS >> number) & 1) * operation.value;
+    (key | value) == 0
 }
 
-fn are_stored(book: &[u32], count: usize) -> bool
-    requires { ⌜ (length (now book) ≡ 3937) × (count ≤ 256) ⌝ }
-    ensures { λ r. ⌜ (r ≡ true) ↔ ((i : ℕ) → i < count → AsStored (now (book .entry)) i) ⌝ }
-{
-    for i in 0..count {
-        if !is_stored(layout::entry_operation(book, i)) {
-            return false;
-        }
-    }
-    true
-}
-
-// Ranges and zeros of the log.
-pub fn packed(book: &[u32]) -> bool
+// The number of entries is in range, and the words past them are 0.
+pub fn bounded(book: &[u32]) -> bool
     requires { ⌜ length (now book) ≡ 3937 ⌝ }
-    ensures { λ r. ⌜ (r ≡ true) ↔ LogPacked (now (book .entry)) ⌝ }
+    ensures { λ r. ⌜ (r ≡ true) ↔ LogBounded (now (book .entry)) ⌝ }
 {
     let count = layout::entry_count(book);
     if count > layout::ENTRIES {
-        return false;
-    }
-    if !are_stored(book, count) {
         return false;
     }
     let start = layout::LOG + layout::ENTRY * count;
@@ -73,7 +64,7 @@ fn kind_of(number: u32) -> u32
 
 fn is_live(book: &[u32], live: u64, i: usize) -> bool
     requires { ⌜ (length (now book) ≡ 3937) × (i < 256) × Holds live (Live (decode base (now book))) ⌝ }
-    ensures { λ r. ⌜ (r ≡ true) ↔ Live (decode base (now (book .entry))) (word (now (book .entry)) (entryStart i)) ⌝ }
+    ensures { λ r. ⌜ (r ≡ true) ↔ EntryLive (now (book .entry)) i ⌝ }
 {
     let transaction = layout::entry_transaction(book, i);
     if layout::wide(transaction) >= layout::TRANSACTIONS {
@@ -83,8 +74,8 @@ fn is_live(book: &[u32], live: u64, i: usize) -> bool
 }
 
 fn of_kind(book: &[u32], i: usize) -> bool
-    requires { ⌜ Packed base (now book) × (i < word (now book) 0) ⌝ }
-    ensures { λ r. ⌜ (r ≡ true) ↔ (objectOf (decode base (now (book .entry))) (word (now (book .entry)) (entryStart i + 1)) .kind ≡ some (model.kindOf (operationAt (now (book .entry)) i))) ⌝ }
+    requires { ⌜ (length (now book) ≡ 3937) × (i < 256) × AsStored (now book) i ⌝ }
+    ensures { λ r. ⌜ (r ≡ true) ↔ EntryOfKind (now (book .entry)) i ⌝ }
 {
     let object = layout::wide(layout::entry_object(book, i));
     if object >= layout::OBJECTS {
@@ -95,27 +86,30 @@ fn of_kind(book: &[u32], i: usize) -> bool
 }
 
 fn is_reduced(book: &[u32], i: usize) -> bool
-    requires { ⌜ Packed base (now book) × (i < word (now book) 0) ⌝ }
-    ensures { λ r. ⌜ (r ≡ true) ↔ model.StoredKey model.reduceKey (operationAt (now (book .entry)) i) ⌝ }
+    requires { ⌜ (length (now book) ≡ 3937) × (i < 256) × AsStored (now book) i ⌝ }
+    ensures { λ r. ⌜ (r ≡ true) ↔ KeyReduced (now (book .entry)) i ⌝ }
 {
     let operation = layout::entry_operation(book, i);
     kind_of(operation.number) == 1 || operation.key < layout::KEYS
 }
 
 fn entry_fits(book: &[u32], live: u64, i: usize) -> bool
-    requires { ⌜ Packed base (now book) × (i < word (now book) 0) × Holds live (Live (decode base (now book))) ⌝ }
+    requires { ⌜ (length (now book) ≡ 3937) × (i < 256) × Holds live (Live (decode base (now book))) ⌝ }
     ensures { λ r. ⌜ (r ≡ true) ↔ EntryFits (now (book .entry)) i ⌝ }
 {
+    if !is_stored(layout::entry_operation(book, i)) {
+        return false;
+    }
     if !is_live(book, live, i) {
         return false;
     }
     of_kind(book, i) && is_reduced(book, i)
 }
 
-// Whether each entry belongs to a live transaction, fits its object's kind and has a reduced key.
+// Whether each entry is as stored, belongs to a live transaction, fits its object's kind and has a reduced key.
 pub fn fits(book: &[u32], live: u64) -> bool
-    requires { ⌜ Packed base (now book) × Holds live (Live (decode base (now book))) ⌝ }
-    ensures { λ r. ⌜ (r ≡ true) ↔ (EntriesLive (decode base (now (book .entry))) × EntriesFit (decode base (now (book .entry))) × KeysReduced base (decode base (now (book .entry)))) ⌝ }
+    requires { ⌜ (length (now book) ≡ 3937) × LogBounded (now book) × Holds live (Live (decode base (now book))) ⌝ }
+    ensures { λ r. ⌜ (r ≡ true) ↔ LogFits (now (book .entry)) ⌝ }
 {
     let count = layout::entry_count(book);
     for i in 0..count {
@@ -136,7 +130,8 @@ fn put(
     answer: Reply,
 )
     requires { ⌜ (length (now book) ≡ 3937) × (i < 256) ⌝ }
-    ensures { λ r. ⌜ now (book .exit) ≡ sets (now (book .entry)) (entryStart i) (wordsOf transaction object operation answer) ⌝ }
+    ensures { λ r. ⌜ now (book .exit)
+        ≡ sets (now (book .entry)) (entryStart i) (wordsOf transaction object operation answer) ⌝ }
 {
     let start = layout::LOG + layout::ENTRY * i;
     book[start] = transaction;
@@ -151,7 +146,8 @@ fn put(
 // An entry put last.
 pub fn append(book: &mut [u32], transaction: u32, object: u32, operation: Operation, answer: Reply)
     requires { ⌜ Packed base (now book) × (word (now book) 0 < 256) × ((o : model.Operation) × StoredAs operation o) ⌝ }
-    ensures { λ r. ⌜ ((o : model.Operation) → StoredAs operation o → now (book .exit) ≡ encode base (appended (logged transaction object o (asReply answer)) (decode base (now (book .entry))))) ⌝ }
+    ensures { λ r. ⌜ ((o : model.Operation) → StoredAs operation o → now (book .exit)
+        ≡ encode base (appended (logged transaction object o (asReply answer)) (decode base (now (book .entry))))) ⌝ }
 {
     let count = layout::entry_count(book);
     put(book, count, transaction, object, operation, answer);

@@ -8,18 +8,23 @@ use native.Mathlib.Omega.{arith}
 use borrow.Author.Tests.{le-leb, lt-leb}
 use lib.ListN.{getD, List·getD-map}
 use Rattle.operations.specs.Operations as model
-use Rattle.operations.specs.PairRules.{Rule, never, Rules, ruleAt, related, firstNumber, lastNumber, recoverableRules, commutingRules}
+use Rattle.operations.specs.PairRules.{Rule, never, Rules, ruleAt, related, firstNumber, lastNumber}
+use Rattle.operations.specs.PairRules.{recoverableRules, commutingRules}
 use Rattle.operations.specs.declared.Operation.{Operation}
 use Rattle.pairs.specs.Pairs.{codeOf, codeAt, allowsKeys, OneKind, both, pairOf, kindNumbered, RowOf, Filled}
 
 -- Every look-up: the table of codes has the code of each rule. Outside it both say `never`, whose code is 0.
-pub code : (rules : Rules) (requested logged : ℕ) → getD (getD (map (map codeOf) rules) requested []) logged 0 ≡ codeAt rules requested logged
+pub code : (rules : Rules) (requested logged : ℕ) → getD (getD (map (map codeOf) rules) requested []) logged 0
+    ≡ codeAt rules requested logged
 code rules requested logged =
-    ap (λ row. getD row logged 0) (List·getD-map (map codeOf) rules requested []) ∙ List·getD-map codeOf (getD rules requested []) logged never
+    ap (λ row. getD row logged 0) (List·getD-map (map codeOf) rules requested [])
+    ∙ List·getD-map codeOf (getD rules requested []) logged never
 
 -- Both numbers are of the kind.
 abbrev pub Within : model.Kind → ℕ → ℕ → Type 0
-Within kind requested logged = (firstNumber kind ≤ requested) × (requested ≤ lastNumber kind) × (firstNumber kind ≤ logged) × (logged ≤ lastNumber kind)
+Within kind requested logged =
+    (firstNumber kind ≤ requested) × (requested ≤ lastNumber kind) × (firstNumber kind ≤ logged)
+    × (logged ≤ lastNumber kind)
 
 -- The tests of the requested number find the kind of both.
 pub within : (requested logged : Operation) → OneKind requested logged →
@@ -48,7 +53,8 @@ Keyed rules =
     (let last = lastNumber kind - firstNumber kind in
     Each last (λ i. Each last (λ j.
     allowsKeys (ruleAt (rules kind) i j) k k′
-    ≡ both (related rules) (model.stored (λ x. x) (firstNumber kind + i) k v) (model.stored (λ x. x) (firstNumber kind + j) k′ v′))))
+    ≡ both (related rules) (model.stored (λ x. x) (firstNumber kind + i) k v)
+    (model.stored (λ x. x) (firstNumber kind + j) k′ v′))))
 
 pub recoverableKeyed : Keyed recoverableRules
 recoverableKeyed model.Stack k v k′ v′ = search depth 8
@@ -63,7 +69,8 @@ commutingKeyed model.Table k v k′ v′ = search depth 8
 -- `recoverable` and `commutes`: what `allowed` says of the code found is the relation of the two operations.
 pub decided : (rules : model.Kind → Rules) → Keyed rules → (kind : model.Kind) (requested logged : Operation) →
     Within kind (requested .number) (logged .number) →
-    {found : ℕ} → found ≡ codeAt (rules kind) (requested .number - firstNumber kind) (logged .number - firstNumber kind) →
+    {found : ℕ} →
+    found ≡ codeAt (rules kind) (requested .number - firstNumber kind) (logged .number - firstNumber kind) →
     {r : Bool} → ((rule : Rule) → found ≡ codeOf rule → r ≡ allowsKeys rule (requested .key) (logged .key)) →
     r ≡ pairOf (related rules) requested logged
 decided rules keyed kind requested logged w found allowed =
@@ -73,7 +80,8 @@ decided rules keyed kind requested logged w found allowed =
     let j = logged .number - first in
     let atI : first + i ≡ requested .number = omega arith in
     let atJ : first + j ≡ logged .number = omega arith in
-    let row = each last _ (keyed kind (requested .key) (requested .value) (logged .key) (logged .value)) i (omega arith) in
+    let row = each last _ (keyed kind (requested .key) (requested .value) (logged .key) (logged .value)) i
+    (omega arith) in
     allowed (ruleAt (rules kind) i j) found ∙ (rw (atI, atJ) at (each last _ row j (omega arith)))
 
 -- ---- Operations by number
@@ -94,12 +102,15 @@ numbered-table number l =
 
 -- `recoverable_row` and `commuting_row`: what each of the three ways out gives.
 module _ (rules : model.Kind → Rules) (requested : ℕ) where
-  pub stack-row : (row : List ℕ) → requested ≤ 3 → Filled (getD (map (map codeOf) (rules model.Stack)) (requested - 1) []) row → RowOf rules requested row
-  stack-row row l filled = rw (numbered-stack requested l) (λ m k. filled m k ∙ code (rules model.Stack) (requested - 1) m)
+  pub stack-row : (row : List ℕ) → requested ≤ 3
+      → Filled (getD (map (map codeOf) (rules model.Stack)) (requested - 1) []) row → RowOf rules requested row
+  stack-row row l filled =
+      rw (numbered-stack requested l) (λ m k. filled m k ∙ code (rules model.Stack) (requested - 1) m)
 
-  pub set-row : (row : List ℕ) → 3 < requested → requested ≤ 6 → Filled (getD (map (map codeOf) (rules model.Set)) (requested - 4) []) row
-      → RowOf rules requested row
-  set-row row l m filled = rw (numbered-set requested l m) (λ n k. filled n k ∙ code (rules model.Set) (requested - 4) n)
+  pub set-row : (row : List ℕ) → 3 < requested → requested ≤ 6
+      → Filled (getD (map (map codeOf) (rules model.Set)) (requested - 4) []) row → RowOf rules requested row
+  set-row row l m filled =
+      rw (numbered-set requested l m) (λ n k. filled n k ∙ code (rules model.Set) (requested - 4) n)
 
   pub table-row : 6 < requested → RowOf rules requested (getD (map (map codeOf) (rules model.Table)) (requested - 7) [])
   table-row l = rw (numbered-table requested l) (λ m k. code (rules model.Table) (requested - 7) m)

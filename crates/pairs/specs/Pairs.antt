@@ -8,6 +8,7 @@ use lib.Dec.{leb}
 use lib.ListN.{getD}
 use Rattle.operations.specs.Operations as model
 use Rattle.operations.specs.PairRules.{Rule, always, never, apart, Rules, allows, ruleAt, firstNumber, lastNumber}
+use Rattle.operations.specs.PairRules.{recoverableRules, commutingRules}
 use Rattle.operations.specs.declared.Operation.{Operation}
 use Rattle.operations.specs.Stored.{operationOf}
 
@@ -22,7 +23,8 @@ codeAt rules requested logged = codeOf (ruleAt rules requested logged)
 
 -- A rule's test of two keys, as of two operations that have them.
 abbrev pub allowsKeys : Rule → ℕ → ℕ → Bool
-allowsKeys rule requested logged = allows rule (model.onSet (model.member requested)) (model.onSet (model.member logged))
+allowsKeys rule requested logged =
+    allows rule (model.onSet (model.member requested)) (model.onSet (model.member logged))
 
 abbrev pub OfKind : model.Kind → Operation → Type 0
 OfKind kind o = (firstNumber kind ≤ o .number) × (o .number ≤ lastNumber kind)
@@ -64,7 +66,13 @@ widthOf number = lastOf number + 1 - firstOf number
 
 -- The codes for a requested operation, one for each logged one of its kind.
 abbrev pub RowOf : (model.Kind → Rules) → ℕ → List ℕ → Type 0
-RowOf rules requested row = (m : ℕ) → m < widthOf requested → getD row m 0 ≡ codeAt (rules (kindNumbered requested)) (columnOf requested) m
+RowOf rules requested row =
+    (m : ℕ) → m < widthOf requested → getD row m 0 ≡ codeAt (rules (kindNumbered requested)) (columnOf requested) m
+
+-- Its rows in both tables.
+abbrev pub RowsOf : ℕ → List ℕ → List ℕ → Type 0
+RowsOf requested recoverable commuting =
+    RowOf recoverableRules requested recoverable × RowOf commutingRules requested commuting
 
 -- A row of three codes, filled up.
 abbrev pub Filled : List ℕ → List ℕ → Type 0

@@ -2,8 +2,11 @@
 use operations::Operation;
 ghost use mathlib.Core.Path.{_≡_};
 ghost use Prim.Native.Nat.{_-_, _≤_};
-ghost use Rattle.operations.specs.PairRules.{Rule, recoverable as Recoverable, commutes as Commutes, recoverableRules, commutingRules, stackRecoverable, setRecoverable, tableRecoverable, stackCommuting, setCommuting, tableCommuting};
-ghost use Rattle.pairs.specs.Pairs.{OneKind, codeOf, codeAt, allowsKeys, pairOf, Numbered, RowOf, Filled};
+ghost use Rattle.operations.specs.PairRules.{Rule, recoverable as Recoverable, commutes as Commutes};
+ghost use Rattle.operations.specs.PairRules.{recoverableRules, commutingRules};
+ghost use Rattle.operations.specs.PairRules.{stackRecoverable, setRecoverable, tableRecoverable};
+ghost use Rattle.operations.specs.PairRules.{stackCommuting, setCommuting, tableCommuting};
+ghost use Rattle.pairs.specs.Pairs.{OneKind, codeOf, codeAt, allowsKeys, pairOf, Numbered, RowOf, RowsOf, Filled};
 
 pub const NEVER: u8 = 0;
 
@@ -107,7 +110,7 @@ fn filled(row: [u8; 3]) -> [u8; 5]
 
 // The row of a requested operation, by its number: a code for each logged one of its kind.
 
-pub fn recoverable_row(requested: u32) -> [u8; 5]
+fn recoverable_row(requested: u32) -> [u8; 5]
     requires { ⌜ Numbered requested ⌝ }
     ensures { λ r. ⌜ RowOf recoverableRules requested r ⌝ }
 {
@@ -120,7 +123,7 @@ pub fn recoverable_row(requested: u32) -> [u8; 5]
     TABLE_RECOVERABLE[(requested - 7) as usize]
 }
 
-pub fn commuting_row(requested: u32) -> [u8; 5]
+fn commuting_row(requested: u32) -> [u8; 5]
     requires { ⌜ Numbered requested ⌝ }
     ensures { λ r. ⌜ RowOf commutingRules requested r ⌝ }
 {
@@ -131,6 +134,22 @@ pub fn commuting_row(requested: u32) -> [u8; 5]
         return filled(SET_COMMUTING[(requested - 4) as usize]);
     }
     TABLE_COMMUTING[(requested - 7) as usize]
+}
+
+// The rows of a requested operation in the tables of its kind.
+pub struct RuleRows {
+    pub recoverable: [u8; 5],
+    pub commuting: [u8; 5],
+}
+
+pub fn rows(requested: u32) -> RuleRows
+    requires { ⌜ Numbered requested ⌝ }
+    ensures { λ r. ⌜ RowsOf requested (r .recoverable) (r .commuting) ⌝ }
+{
+    RuleRows {
+        recoverable: recoverable_row(requested),
+        commuting: commuting_row(requested),
+    }
 }
 
 // A table's code, tested on the two operations.

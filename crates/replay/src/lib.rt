@@ -1,13 +1,15 @@
-// Replay of one operation on a copy of 64 pairs, an object's rows: changed in place, or handed through by value and handed back.
+// Replay of one operation on a copy of an object's rows: 64 pairs by value, handed through and handed back.
 use operations::Operation;
 use operations::Reply;
 ghost use mathlib.Core.Path.{_≡_};
 ghost use mathlib.Core.List.{[], _∷_, _++_, map};
 ghost use Prim.Native.Nat.{_+_, _-_, _<_, _≤_};
 ghost use lib.ListN.{length, take};
-ghost use Rattle.operations.specs.Operations.{row, flag as Flag, valued, topItem, found, present as Present, inserted as Inserted, deleted as Deleted, modified as Modified};
+ghost use Rattle.operations.specs.Operations.{row, flag as Flag, valued, topItem, found, present as Present};
+ghost use Rattle.operations.specs.Operations.{inserted as Inserted, deleted as Deleted, modified as Modified};
 ghost use Rattle.operations.specs.Stored.{asReply};
-ghost use Rattle.replay.specs.Replay.{nextOf, replyOf, rowOf, rowsOf, Holds, Placed, positionOf, putAt, removedAt};
+ghost use Rattle.replay.specs.Replay.{nextOf, replyOf, rowOf, rowsOf, Holds, Placed};
+ghost use Rattle.replay.specs.Replay.{positionOf, putAt, removedAt};
 
 // The place of the first key that is not below `key`, or the number of rows.
 fn position(rows: &[[u32; 2]; 64], count: usize, key: u32) -> usize
@@ -77,50 +79,60 @@ fn close_at(rows: &mut [[u32; 2]; 64], count: usize, at: usize)
     }
 }
 
-fn push(rows: &mut [[u32; 2]; 64], count: usize, item: u32)
-    requires { ⌜ (count ≤ 64) × (length (rowsOf (now rows) count ++ (row item 0 ∷ [])) ≤ 64) ⌝ }
-    ensures { λ r. ⌜ Holds (now (rows .exit)) (rowsOf (now (rows .entry)) count ++ (row item 0 ∷ [])) ⌝ }
+fn push(rows: [[u32; 2]; 64], count: usize, item: u32) -> [[u32; 2]; 64]
+    requires { ⌜ count < 64 ⌝ }
+    ensures { λ r. ⌜ Holds r (rowsOf rows count ++ (row item 0 ∷ [])) ⌝ }
 {
-    let whole = &rows[..];
-    if count < whole.len() {
-        rows[count] = [item, 0];
-    }
+    let mut rows = rows;
+    rows[count] = [item, 0];
+    rows
 }
 
-fn insert(rows: &mut [[u32; 2]; 64], count: usize, at: usize, key: u32, value: u32)
-    requires { ⌜ (count ≤ 64) × (length (Inserted key value (rowsOf (now rows) count)) ≤ 64) × (at ≡ positionOf key (rowsOf (now rows) count)) ⌝ }
-    ensures { λ r. ⌜ Holds (now (rows .exit)) (Inserted key value (rowsOf (now (rows .entry)) count)) ⌝ }
+fn insert(rows: [[u32; 2]; 64], count: usize, at: usize, key: u32, value: u32) -> [[u32; 2]; 64]
+    requires { ⌜ (count ≤ 64) × (length (Inserted key value (rowsOf rows count)) ≤ 64)
+        × (at ≡ positionOf key (rowsOf rows count)) ⌝ }
+    ensures { λ r. ⌜ Holds r (Inserted key value (rowsOf rows count)) ⌝ }
 {
-    let whole = &rows[..];
-    if !present(&whole[..count], at, key) {
-        open_at(rows, count, at, [key, value]);
+    let mut rows = rows;
+    if !present(&rows[..count], at, key) {
+        open_at(&mut rows, count, at, [key, value]);
     }
+    rows
 }
 
-fn delete(rows: &mut [[u32; 2]; 64], count: usize, at: usize, key: u32)
-    requires { ⌜ (count ≤ 64) × (at ≡ positionOf key (rowsOf (now rows) count)) ⌝ }
-    ensures { λ r. ⌜ Holds (now (rows .exit)) (Deleted key (rowsOf (now (rows .entry)) count)) ⌝ }
+fn delete(rows: [[u32; 2]; 64], count: usize, at: usize, key: u32) -> [[u32; 2]; 64]
+    requires { ⌜ (count ≤ 64) × (at ≡ positionOf key (rowsOf rows count)) ⌝ }
+    ensures { λ r. ⌜ Holds r (Deleted key (rowsOf rows count)) ⌝ }
 {
-    let whole = &rows[..];
-    if present(&whole[..count], at, key) {
-        close_at(rows, count, at);
+    let mut rows = rows;
+    if present(&rows[..count], at, key) {
+        close_at(&mut rows, count, at);
     }
+    rows
 }
 
-fn modify(rows: &mut [[u32; 2]; 64], count: usize, at: usize, key: u32, value: u32)
-    requires { ⌜ (count ≤ 64) × (at ≡ positionOf key (rowsOf (now rows) count)) ⌝ }
-    ensures { λ r. ⌜ Holds (now (rows .exit)) (Modified key value (rowsOf (now (rows .entry)) count)) ⌝ }
+fn modify(rows: [[u32; 2]; 64], count: usize, at: usize, key: u32, value: u32) -> [[u32; 2]; 64]
+    requires { ⌜ (count ≤ 64) × (at ≡ positionOf key (rowsOf rows count)) ⌝ }
+    ensures { λ r. ⌜ Holds r (Modified key value (rowsOf rows count)) ⌝ }
 {
-    let whole = &rows[..];
-    if present(&whole[..count], at, key) {
+    let mut rows = rows;
+    if present(&rows[..count], at, key) {
         rows[at] = [key, value];
     }
+    rows
 }
 
-// Gives the copy, which has room for them, the rows after the operation. Pairs past the new count are left free: a pop only lowers the count.
-pub fn change(rows: &mut [[u32; 2]; 64], count: usize, at: usize, operation: Operation)
-    requires { ⌜ (count ≤ 64) × (length (nextOf operation (rowsOf (now rows) count)) ≤ 64) × Placed operation (rowsOf (now rows) count) at ⌝ }
-    ensures { λ r. ⌜ Holds (now (rows .exit)) (nextOf operation (rowsOf (now (rows .entry)) count)) ⌝ }
+// The rows after the operation, which the copy has room for. Pairs past the new count are left free: a pop only lowers
+// the count.
+pub fn next_rows(
+    rows: [[u32; 2]; 64],
+    count: usize,
+    at: usize,
+    operation: Operation,
+) -> [[u32; 2]; 64]
+    requires { ⌜ (count ≤ 64) × (length (nextOf operation (rowsOf rows count)) ≤ 64)
+        × Placed operation (rowsOf rows count) at ⌝ }
+    ensures { λ r. ⌜ rowsOf r (length (nextOf operation (rowsOf rows count))) ≡ nextOf operation (rowsOf rows count) ⌝ }
 {
     let number = operation.number;
     let key = operation.key;
@@ -130,23 +142,8 @@ pub fn change(rows: &mut [[u32; 2]; 64], count: usize, at: usize, operation: Ope
         5 | 8 => delete(rows, count, at, key),
         7 => insert(rows, count, at, key, operation.value),
         11 => modify(rows, count, at, key, operation.value),
-        _ => {}
+        _ => rows,
     }
-}
-
-// The same of a copy that is handed through by value.
-pub fn next_rows(
-    rows: [[u32; 2]; 64],
-    count: usize,
-    at: usize,
-    operation: Operation,
-) -> [[u32; 2]; 64]
-    requires { ⌜ (count ≤ 64) × (length (nextOf operation (rowsOf rows count)) ≤ 64) × Placed operation (rowsOf rows count) at ⌝ }
-    ensures { λ r. ⌜ rowsOf r (length (nextOf operation (rowsOf rows count))) ≡ nextOf operation (rowsOf rows count) ⌝ }
-{
-    let mut rows = rows;
-    change(&mut rows, count, at, operation);
-    rows
 }
 
 // How many rows there are after the operation.

@@ -2,7 +2,8 @@
 use Rattle.operations.specs.Operations.{replied}
 use Rattle.protocol.specs.Replies as model
 use Rattle.scheduler.specs.declared.Response.{Response}
-use Rattle.scheduler.specs.declared.Response.the-variants.{Ok, Answered, Wait, Finished, Committed, Circle, Cancelled, Counted, Refused}
+use Rattle.scheduler.specs.declared.Response.the-variants.{Ok, Answered, Wait, Finished, Committed, Circle}
+use Rattle.scheduler.specs.declared.Response.the-variants.{Cancelled, Counted, Refused}
 
 abbrev pub responseOf : Response → model.Response
 responseOf Ok = model.ok

@@ -39,7 +39,8 @@ fn write_empty(book: &mut [u32], kinds: &[u8])
 }
 
 pub fn set_up(book: &mut [u32], kinds: &[u8]) -> Response
-    ensures { λ r. ⌜ served (now (book .exit)) (outcome (responseOf r) [] []) ≡ calls.setUp base (now (book .entry)) (now (kinds .entry)) ⌝ }
+    ensures { λ r. ⌜ served (now (book .exit)) (outcome (responseOf r) [] [])
+        ≡ calls.setUp base (now (book .entry)) (now (kinds .entry)) ⌝ }
 {
     let reason = refusals::set_up(book, kinds);
     if reason != 0 {
@@ -50,7 +51,8 @@ pub fn set_up(book: &mut [u32], kinds: &[u8]) -> Response
 }
 
 pub fn begin(book: &mut [u32], transaction: u32) -> Response
-    ensures { λ r. ⌜ served (now (book .exit)) (outcome (responseOf r) [] []) ≡ calls.begin base whetherSound (now (book .entry)) transaction ⌝ }
+    ensures { λ r. ⌜ served (now (book .exit)) (outcome (responseOf r) [] [])
+        ≡ calls.begin base whetherSound (now (book .entry)) transaction ⌝ }
 {
     let reason = refusals::begin(book, transaction);
     if reason != 0 {
@@ -68,7 +70,8 @@ pub fn operate(
     key: u32,
     value: u32,
 ) -> Response
-    ensures { λ r. ⌜ served (now (book .exit)) (outcome (responseOf r) [] []) ≡ calls.operate base whetherSound (now (book .entry)) transaction object operation key value ⌝ }
+    ensures { λ r. ⌜ served (now (book .exit)) (outcome (responseOf r) [] [])
+        ≡ calls.operate base whetherSound (now (book .entry)) transaction object operation key value ⌝ }
 {
     let reason = refusals::operate(book, transaction, object, operation);
     if reason != 0 {
@@ -85,20 +88,21 @@ pub fn operate(
 }
 
 pub fn finish(book: &mut [u32], transaction: u32, list: &mut [u8]) -> Response
-    ensures { λ r. ⌜ served (now (book .exit)) (outcome (responseOf r) (now (list .exit)) []) ≡ calls.finish base whetherSound (now (book .entry)) transaction (now (list .entry)) ⌝ }
+    ensures { λ r. ⌜ served (now (book .exit)) (outcome (responseOf r) (now (list .exit)) [])
+        ≡ calls.finish base whetherSound (now (book .entry)) transaction (now (list .entry)) ⌝ }
 {
-    let examined = sound::examined(book);
+    let mut edges = [0u64; 64];
+    let examined = sound::examined(book, &mut edges);
     let reason = refusals::end(book, transaction, list.len(), examined.sound);
     if reason != 0 {
         return Response::Refused(reason);
     }
-    let edges = examined.dependencies;
     if cycles::on_cycle(&edges, examined.finished, transaction) {
-        let count = ending::abort(book, transaction, edges, list);
+        let count = ending::abort(book, transaction, &mut edges, examined.finished, list);
         return Response::Circle(count as u32);
     }
     if cycles::ready(&edges, transaction) {
-        let count = ending::commit_active(book, transaction, edges, list);
+        let count = ending::commit_active(book, transaction, &mut edges, examined.finished, list);
         return Response::Committed(count as u32);
     }
     let rank = statuses::next_rank(book);
@@ -107,15 +111,16 @@ pub fn finish(book: &mut [u32], transaction: u32, list: &mut [u8]) -> Response
 }
 
 pub fn cancel(book: &mut [u32], transaction: u32, list: &mut [u8]) -> Response
-    ensures { λ r. ⌜ served (now (book .exit)) (outcome (responseOf r) (now (list .exit)) []) ≡ calls.cancel base whetherSound (now (book .entry)) transaction (now (list .entry)) ⌝ }
+    ensures { λ r. ⌜ served (now (book .exit)) (outcome (responseOf r) (now (list .exit)) [])
+        ≡ calls.cancel base whetherSound (now (book .entry)) transaction (now (list .entry)) ⌝ }
 {
-    let examined = sound::examined(book);
+    let mut edges = [0u64; 64];
+    let examined = sound::examined(book, &mut edges);
     let reason = refusals::end(book, transaction, list.len(), examined.sound);
     if reason != 0 {
         return Response::Refused(reason);
     }
-    let edges = examined.dependencies;
-    let committed = ending::abort(book, transaction, edges, list);
+    let committed = ending::abort(book, transaction, &mut edges, examined.finished, list);
     Response::Cancelled(committed as u32)
 }
 

@@ -10,7 +10,7 @@ use Rattle.bitset.specs.Bitset.{Holds, Represents, In}
 use Rattle.operations.specs.Laws.Cases.{no, denied}
 use Rattle.store.specs.Store.{Store, Live, PseudoCommitted}
 use Rattle.store.specs.Dependency.{DependsOn, Way, OnCycle}
-use Rattle.store.specs.Layout.{base, Packed}
+use Rattle.sound.specs.Examined.{Bounded}
 use Rattle.store.specs.Soundness.{EntriesLive, Acyclic, Dependent}
 use Rattle.store.specs.Laws.Dependencies.{depended-on}
 use Rattle.store.specs.Laws.Ways.{way-monotone}
@@ -24,8 +24,8 @@ refused decided fails part = no refl (λ q. denied decided fails (part q))
 pub unsound : {b : Bool} {P Q R : Type 0} → (b ≡ true) ↔ P → b ≡ false → (Q → P) → ((false ≡ true) ↔ Q) × (false ≡ true → R)
 unsound decided fails part = (refused decided fails part, λ e. absurd (true≢false (sym e)))
 
-pub of-another-length : (w : List ℕ) → (length w ≡ 3_937 → ⊥) → (false ≡ true) ↔ Packed base w
-of-another-length w other = no refl (λ (p : Packed base w). other (p .words))
+pub of-another-length : (w : List ℕ) → (length w ≡ 3_937 → ⊥) → (false ≡ true) ↔ Bounded w
+of-another-length w other = no refl (λ (b : Bounded w). other (b .words))
 
 -- Where all but the last clause hold, the last decides.
 pub last : {b : Bool} {P Q : Type 0} → (b ≡ true) ↔ P → (P → Q) → (Q → P) → (b ≡ true) ↔ Q

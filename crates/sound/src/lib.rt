@@ -2,15 +2,14 @@
 ghost use mathlib.Core.Path.{_≡_};
 ghost use mathlib.Core.Bool.{true};
 ghost use mathlib.Core.Logic.{_↔_};
-ghost use Rattle.bitset.specs.Bitset.{Holds, Represents};
-ghost use Rattle.store.specs.Store.{PseudoCommitted};
-ghost use Rattle.store.specs.Dependency.{DependsOn};
-ghost use Rattle.store.specs.Layout.{base, decode, Packed};
+ghost use lib.ListN.{replicate};
+ghost use Rattle.store.specs.Layout.{base};
 ghost use Rattle.store.specs.Soundness.{Sound};
+ghost use Rattle.sound.specs.Examined.{Bounded, Examined};
 
-// Ranges and zeros.
-fn packed(book: &[u32]) -> bool
-    ensures { λ r. ⌜ (r ≡ true) ↔ Packed base (now (book .entry)) ⌝ }
+// The length, the ranges of the objects and of the number of entries, and zeros.
+fn bounded(book: &[u32]) -> bool
+    ensures { λ r. ⌜ (r ≡ true) ↔ Bounded (now (book .entry)) ⌝ }
 {
     if book.len() != layout::WORDS {
         return false;
@@ -18,25 +17,26 @@ fn packed(book: &[u32]) -> bool
     if !objects::packed(book) {
         return false;
     }
-    log::packed(book)
+    log::bounded(book)
 }
 
-// Whether a book is sound; of a sound one, who is pseudo-committed and on whom each transaction depends.
+// Whether a book is sound; of a sound one, who is pseudo-committed.
 pub struct Examination {
     pub sound: bool,
     pub finished: u64,
-    pub dependencies: [u64; 64],
 }
 
-pub fn examined(book: &[u32]) -> Examination
-    ensures { λ r. ⌜ ((r .sound ≡ true) ↔ Sound base (now (book .entry))) × (r .sound ≡ true → Holds (r .finished) (PseudoCommitted (decode base (now (book .entry)))) × Represents (r .dependencies) (DependsOn (decode base (now (book .entry)) .log))) ⌝ }
+// The sets, empty before, become those of a sound book's dependencies.
+pub fn examined(book: &[u32], edges: &mut [u64; 64]) -> Examination
+    requires { ⌜ now edges ≡ replicate 64 0 ⌝ }
+    ensures { λ r. ⌜ ((r .sound ≡ true) ↔ Sound base (now (book .entry)))
+        × (r .sound ≡ true → Examined (now (book .entry)) (r .finished) (now (edges .exit))) ⌝ }
 {
     let unsound = Examination {
         sound: false,
         finished: 0,
-        dependencies: [0u64; 64],
     };
-    if !packed(book) {
+    if !bounded(book) {
         return unsound;
     }
     if !objects::formed(book) {
@@ -49,21 +49,19 @@ pub fn examined(book: &[u32]) -> Examination
     if !log::fits(book, summary.live) {
         return unsound;
     }
-    if !answers::answered(book) {
+    let representatives = representatives::all(book);
+    if !states::answered(book, &representatives) {
         return unsound;
     }
-    let conflicts = dependencies::conflicts(book);
-    if !conflicts.recoverable {
+    if !dependencies::conflicts(book, &representatives, edges) {
         return unsound;
     }
-    let edges = conflicts.dependencies;
-    if !cycles::acyclic(&edges, summary.finished) {
+    if !cycles::acyclic(edges, summary.finished) {
         return unsound;
     }
     Examination {
-        sound: cycles::dependent(&edges, summary.finished),
+        sound: cycles::dependent(edges, summary.finished),
         finished: summary.finished,
-        dependencies: edges,
     }
 }
 
@@ -71,5 +69,6 @@ pub fn examined(book: &[u32]) -> Examination
 pub fn sound(book: &[u32]) -> bool
     ensures { λ r. ⌜ (r ≡ true) ↔ Sound base (now (book .entry)) ⌝ }
 {
-    examined(book).sound
+    let mut edges = [0u64; 64];
+    examined(book, &mut edges).sound
 }

@@ -80,7 +80,10 @@ fn in_order(ranks: Ranks) -> bool
 
 pub fn statuses(book: &[u32]) -> Summary
     requires { ⌜ length (now book) ≡ 3937 ⌝ }
-    ensures { λ r. ⌜ Holds (r .live) (Live (decode base (now (book .entry)))) × Holds (r .finished) (PseudoCommitted (decode base (now (book .entry)))) × ((r .ranked ≡ true) ↔ (OnceEach (decode base (now (book .entry))) × WithoutGaps (decode base (now (book .entry))))) ⌝ }
+    ensures { λ r. ⌜ Holds (r .live) (Live (decode base (now (book .entry))))
+        × Holds (r .finished) (PseudoCommitted (decode base (now (book .entry))))
+        × ((r .ranked ≡ true)
+        ↔ (OnceEach (decode base (now (book .entry))) × WithoutGaps (decode base (now (book .entry))))) ⌝ }
 {
     let mut live: u64 = 0;
     let mut finished: u64 = 0;
@@ -91,9 +94,11 @@ pub fn statuses(book: &[u32]) -> Summary
     let mut transaction: u32 = 0;
     while transaction < 64 {
         let status = status_word(book, transaction);
-        live = marked(live, transaction, status > 0);
-        finished = marked(finished, transaction, status > 1);
-        ranks = noted(ranks, status);
+        if status != 0 {
+            live = join(live, single(transaction));
+            finished = marked(finished, transaction, status > 1);
+            ranks = noted(ranks, status);
+        }
         transaction += 1;
     }
     Summary {
@@ -121,7 +126,8 @@ pub fn next_rank(book: &[u32]) -> u32
 
 pub fn set_status(book: &mut [u32], transaction: u32, status: u32)
     requires { ⌜ Packed base (now book) × (transaction < 64) ⌝ }
-    ensures { λ r. ⌜ now (book .exit) ≡ encode base (withStatus transaction (readStatus status) (decode base (now (book .entry)))) ⌝ }
+    ensures { λ r. ⌜ now (book .exit)
+        ≡ encode base (withStatus transaction (readStatus status) (decode base (now (book .entry)))) ⌝ }
 {
     let at = transaction as usize;
     book[1 + at] = status;

@@ -1,4 +1,4 @@
--- `answers::answer`: after the entries to come, from the rows carried, the request gets the reply that it gets after all.
+-- `answers::answer`: after the entries to come, the rows carried give the request the reply that it gets after all.
 use Prim.Native.Nat.{_+_, _-_, _≤_, _<_}
 use mathlib.Core.Path.{_≡_, sym, _∙_}
 use mathlib.Core.Logic.{⊎-elim}
@@ -10,13 +10,15 @@ use Rattle.replay.specs.Replay.{nextOf, rowsOf, Placed}
 use Rattle.store.specs.Layout.{word, entryStart, Packed, base}
 use Rattle.answers.specs.Answers.{Requested}
 use Rattle.answers.specs.Laws.Entries.{EntryRead}
-use Rattle.answers.specs.Laws.Requests.{Carrying, carry-start, carry-past, one-kind, next-fits, carry-out, carry-own, carry-counted, carry-end}
+use Rattle.answers.specs.Laws.Requests.{Carrying, carry-start, carry-past, one-kind, next-fits, carry-out}
+use Rattle.answers.specs.Laws.Requests.{carry-own, carry-counted, carry-end}
 use Rattle.answers.proofs.answer.Statement.{statement}
 use Rattle.answers.proofs.answer.Tie as tie
 
 abbrev Inv-loop : tie.InvT-loop
 Inv-loop book object operation entries rows₀ count₀ i₀ rows count i =
-    (requested : model.Operation) → Requested book object operation requested → Carrying book object requested i rows count
+    (requested : model.Operation) → Requested book object operation requested
+    → Carrying book object requested i rows count
 
 abbrev μ-loop : tie.MeasureT-loop
 μ-loop book object operation entries rows₀ count₀ i₀ rows count i = entries - i
@@ -25,7 +27,8 @@ entry-count-requires : tie.Need-entry-count-requires Inv-loop μ-loop
 entry-count-requires c κs = c .before .pre .0 .words
 
 copied-rows-requires : tie.Need-copied-rows-requires Inv-loop μ-loop
-copied-rows-requires c κs = let (packed, l, room, request) = c .before .before .pre in (packed .words, l, packed .objects _ l .rows)
+copied-rows-requires c κs =
+    let (packed, l, room, request) = c .before .before .pre in (packed .words, l, packed .objects _ l .rows)
 
 row-count-requires : tie.Need-row-count-requires Inv-loop μ-loop
 row-count-requires c κs = let start = c .before .before .before in (start .pre .0 .words, start .pre .1)
@@ -33,7 +36,8 @@ row-count-requires c κs = let start = c .before .before .before in (start .pre 
 loop-holds : tie.Need-loop-holds Inv-loop μ-loop
 loop-holds c =
     let start = c .before .before .before .before in
-    λ requested request. carry-start (start .args .book .now) (start .pre .0) (start .args .object) (start .pre .1) (c .row-count .result) (c .row-count .ensures)
+    λ requested request. carry-start (start .args .book .now) (start .pre .0) (start .args .object) (start .pre .1)
+    (c .row-count .result) (c .row-count .ensures)
     requested request (c .before .copied-rows .result) (c .before .copied-rows .ensures) (start .pre .2)
 
 -- ---- In the loop
@@ -49,13 +53,15 @@ abbrev requested : tie.At-loop Inv-loop μ-loop → model.Operation
 requested c = begin c .pre .3 .0
 
 abbrev carrying : (c : tie.At-loop Inv-loop μ-loop) →
-    Carrying (begin c .args .book .now) (begin c .args .object) (requested c) (c .loop .i) (c .loop .rows) (c .loop .count)
+    Carrying (begin c .args .book .now) (begin c .args .object) (requested c) (c .loop .i) (c .loop .rows)
+    (c .loop .count)
 carrying c = c .loop .inv (requested c) (begin c .pre .3 .1)
 
 inside : (c : tie.In-loop Inv-loop μ-loop) → c .before .loop .i < word (begin (c .before) .args .book .now) 0
 inside c = omega (arith, c .loop-test .taken, c .before .before .before .before .entry-count .ensures)
 
-readable : (c : tie.In-loop Inv-loop μ-loop) → (length (begin (c .before) .args .book .now) ≡ 3937) × (c .before .loop .i < 256)
+readable : (c : tie.In-loop Inv-loop μ-loop)
+    → (length (begin (c .before) .args .book .now) ≡ 3937) × (c .before .loop .i < 256)
 readable c = (packed (c .before) .words, omega (arith, inside c, packed (c .before) .log .entries))
 
 entry-object-requires : tie.Need-entry-object-requires Inv-loop μ-loop
@@ -70,16 +76,20 @@ in-loop c = c .before .before .before .before
 
 own : (c : tie.After-entry-operation Inv-loop μ-loop) → let at-loop = in-loop c .before in
     word (begin at-loop .args .book .now) (entryStart (at-loop .loop .i) + 1) ≡ begin at-loop .args .object
-own c = let tested = c .before .before in sym (tested .wide .ensures ∙ tested .before .entry-object .ensures) ∙ c .before .if1 .taken
+own c =
+    let tested = c .before .before in
+    sym (tested .wide .ensures ∙ tested .before .entry-object .ensures) ∙ c .before .if1 .taken
 
 entry : (c : tie.After-entry-operation Inv-loop μ-loop) → let at-loop = in-loop c .before in
     EntryRead (begin at-loop .args .book .now) (at-loop .loop .i) (c .entry-operation .result)
-entry c = record { packed = packed (in-loop c .before); inside = inside (in-loop c); words = c .entry-operation .ensures }
+entry c =
+    record { packed = packed (in-loop c .before); inside = inside (in-loop c); words = c .entry-operation .ensures }
 
 recoverable-requires : tie.Need-recoverable-requires Inv-loop μ-loop
 recoverable-requires c κs =
     let at-loop = in-loop c .before in
-    one-kind (entry c) (begin at-loop .args .object) (own c) (requested at-loop) (at-loop .loop .rows) (at-loop .loop .count) (carrying at-loop)
+    one-kind (entry c) (begin at-loop .args .object) (own c) (requested at-loop) (at-loop .loop .rows)
+    (at-loop .loop .count) (carrying at-loop)
     (begin at-loop .args .operation) (begin at-loop .pre .3 .1)
 
 place-requires : tie.Need-place-requires Inv-loop μ-loop
@@ -94,7 +104,9 @@ ready : (c : tie.After-place Inv-loop μ-loop) → let read = c .before .before 
 ready c =
     let read = c .before .before .before .before in
     let at-loop = in-loop read .before in
-    let room = next-fits (entry read) (begin at-loop .args .object) (own read) (requested at-loop) (at-loop .loop .rows) (at-loop .loop .count) (carrying at-loop) in
+    let room =
+    next-fits (entry read) (begin at-loop .args .object) (own read) (requested at-loop) (at-loop .loop .rows)
+    (at-loop .loop .count) (carrying at-loop) in
     (room .0, room .1, c .place .ensures)
 
 next-count-requires : tie.Need-next-count-requires Inv-loop μ-loop
@@ -114,16 +126,19 @@ loop-again c =
     λ requested request.
     ⊎-elim
     (λ w.
-    carry-own (record { packed = start .pre .0; inside = inside in-loop; words = w .1 .ensures }) (start .args .object) (sym object ∙ w .0 .taken)
-    requested (state .rows) (state .count) (state .inv requested request) (c .if1 .rows) (c .if1 .count) (rw (w .9) (w .8 .ensures)) (w .10 ∙ w .7 .ensures))
+    carry-own (record { packed = start .pre .0; inside = inside in-loop; words = w .1 .ensures }) (start .args .object)
+    (sym object ∙ w .0 .taken) requested (state .rows) (state .count) (state .inv requested request) (c .if1 .rows)
+    (c .if1 .count) (rw (w .9) (w .8 .ensures)) (w .10 ∙ w .7 .ensures))
     (⊎-elim
     (λ w.
     rw (w .4, w .5)
-    (carry-out (record { packed = start .pre .0; inside = inside in-loop; words = w .1 .ensures }) (start .args .object) (sym object ∙ w .0 .taken)
-    requested (state .rows) (state .count) (state .inv requested request) (start .args .operation) request (w .2 .result) (w .2 .ensures) (w .3 .left)))
+    (carry-out (record { packed = start .pre .0; inside = inside in-loop; words = w .1 .ensures }) (start .args .object)
+    (sym object ∙ w .0 .taken) requested (state .rows) (state .count) (state .inv requested request)
+    (start .args .operation) request (w .2 .result) (w .2 .ensures) (w .3 .left)))
     (λ w.
     rw (w .1, w .2)
-    (carry-past (start .args .book .now) (start .args .object) (state .i) (inside in-loop) (λ e. w .0 .left (object ∙ e)) requested (state .rows) (state .count)
+    (carry-past (start .args .book .now) (start .args .object) (state .i) (inside in-loop)
+    (λ e. w .0 .left (object ∙ e)) requested (state .rows) (state .count)
     (state .inv requested request))))
     (c .if1 .came)
 
@@ -135,7 +150,8 @@ ended c = omega (arith, c .loop-test .left, c .before .before .before .before .e
 place-requires-2 : tie.Need-place-requires-2 Inv-loop μ-loop
 place-requires-2 c κs =
     let at-loop = c .before .before in
-    carry-counted (begin at-loop .args .book .now) (begin at-loop .args .object) (at-loop .loop .i) (ended (c .before)) (requested at-loop) (at-loop .loop .rows)
+    carry-counted (begin at-loop .args .book .now) (begin at-loop .args .object) (at-loop .loop .i) (ended (c .before))
+    (requested at-loop) (at-loop .loop .rows)
     (at-loop .loop .count) (carrying at-loop)
 
 reply-requires : tie.Need-reply-requires Inv-loop μ-loop
@@ -146,7 +162,8 @@ returns c =
     let after = c .before .before .before .before in
     let at-loop = after .before in
     c .reply .ensures
-    ∙ carry-end (begin at-loop .args .book .now) (begin at-loop .args .object) (at-loop .loop .i) (ended after) (requested at-loop) (at-loop .loop .rows)
+    ∙ carry-end (begin at-loop .args .book .now) (begin at-loop .args .object) (at-loop .loop .i) (ended after)
+    (requested at-loop) (at-loop .loop .rows)
     (at-loop .loop .count) (carrying at-loop) (begin at-loop .args .operation) (begin at-loop .pre .3 .1 .named)
 
 pub answer-spec : {M : Type 1} → statement M

@@ -5,4 +5,5 @@ use Rattle.answers.proofs.rows_needed.Tie as tie
 
 pub rows-needed-spec : {M : Type 1} → statement M
 rows-needed-spec =
-    tie.close (tie.spec (λ c. needed-one (c .before .args .number) (c .match .keys1)) (λ c. needed-none (c .before .args .number) (c .match .rest .1)))
+    tie.close (tie.spec (λ c. needed-one (c .before .args .number) (c .match .keys1))
+    (λ c. needed-none (c .before .args .number) (c .match .rest .1)))

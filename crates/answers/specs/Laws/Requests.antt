@@ -1,7 +1,7 @@
--- For a request: the rows that an object uses, counted, and the rows that replay of its entries reaches.
+-- For a request: the rows that replay of an object's entries reaches, as far as they matter to it.
 use Prim.Native.Nat.{ℕ, _+_, _≤_, _<_}
 use mathlib.Core.Path.{_≡_, refl, sym, ap, ap₂, _∙_}
-use mathlib.Core.Bool.{Bool, true, false, cond, not}
+use mathlib.Core.Bool.{Bool, true, false, not}
 use mathlib.Core.Option.{some}
 use mathlib.Core.List.{List, [], _∷_}
 use native.Mathlib.Omega.{arith}
@@ -18,54 +18,44 @@ use Rattle.operations.specs.Laws.Recoverability.{left-out-before}
 use Rattle.pairs.specs.Pairs.{OneKind, both, pairOf}
 use Rattle.replay.specs.Replay.{rowsOf, nextOf, replyOf, replyBy}
 use Rattle.store.specs.Store.{objectOf, onObject}
-use Rattle.store.specs.Layout.{word, decode, entryStart, operationAt, entryAt, objectStart, rowsAt, adds, additions, Packed, base}
+use Rattle.store.specs.Layout.{word, decode, entryStart, operationAt, entryAt, objectStart, rowsAt, additions, Packed}
+use Rattle.store.specs.Layout.{base}
 use Rattle.store.specs.Soundness.{Room}
-use Rattle.store.specs.Laws.Capacity.{additions-first}
-use Rattle.answers.specs.Answers.{entriesFrom, replayed, Requested, rowsNeeded}
-use Rattle.answers.specs.Laws.Entries.{entries-own, entries-other, entries-end, EntryRead, named, needs-rows, needed-few}
-use Rattle.answers.specs.Laws.Replay.{next-named, next-grows, row-count}
+use Rattle.answers.specs.Answers.{entriesFrom, replayed, Requested}
+use Rattle.answers.specs.Laws.Entries.{entries-own, entries-other, entries-end, EntryRead, named}
+use Rattle.answers.specs.Laws.Replay.{next-named, next-grows}
+use Rattle.answers.specs.Laws.Counting.{all-rows, counted-here}
 use Rattle.answers.specs.Laws.Whole.{rows-read}
 
--- Counted up to entry i: with what the entries from there on may need, it is all that the object uses.
-pub record Counting (w : List ℕ) (o i used : ℕ) : Type 0 where
-  pub within : i ≤ word w 0
-  pub bounded : used ≤ 64 + i
-  pub left : used + additions (entriesFrom w o i) ≡ base .used (decode base w) o
-
--- Replayed up to entry i: after the entries from there on the request gets the reply that it gets after all, and there is room for what they may need.
-pub record Carrying (w : List ℕ) (o : ℕ) (requested : model.Operation) (i : ℕ) (rows : List (List ℕ)) (count : ℕ) : Type 0 where
+-- Replayed up to entry i: after the entries from there on the request gets the reply that it gets after all, and there
+-- is room for what they may need.
+pub record Carrying (w : List ℕ) (o : ℕ) (requested : model.Operation) (i : ℕ) (rows : List (List ℕ))
+    (count : ℕ) : Type 0 where
   pub within : i ≤ word w 0
   pub room : count + additions (entriesFrom w o i) ≤ 64
   pub formed : model.WellFormed model.reduceKey (model.kindOf requested) (rowsOf rows count)
   pub fits : model.All (EntryFits (object model.reduceKey (model.kindOf requested))) (entriesFrom w o i)
-  pub left : model.reply requested (replayed (entriesFrom w o i) (rowsOf rows count)) ≡ model.reply requested (replayed (entriesFrom w o 0) (rowsAt w o))
+  pub left : model.reply requested (replayed (entriesFrom w o i) (rowsOf rows count))
+      ≡ model.reply requested (replayed (entriesFrom w o 0) (rowsAt w o))
 
 module _ (kind : model.Kind) where
-  replayed-after : (l : List (Entry model.Operation model.Reply)) (rs : List model.Row) → replayed l rs ≡ after (object model.reduceKey kind) l rs
+  replayed-after : (l : List (Entry model.Operation model.Reply)) (rs : List model.Row)
+      → replayed l rs ≡ after (object model.reduceKey kind) l rs
   replayed-after [] rs = refl
   replayed-after (e ∷ l) rs = replayed-after l (model.next (e .operation) rs)
 
 -- ---- At the first entry
 
-module _ (w : List ℕ) (packed : Packed base w) (o : ℕ) (l : o < 16) (count : ℕ) (e : count ≡ word w (objectStart o + 1)) where
-  all-rows : count ≡ length (objectOf (decode base w) o .rows)
-  all-rows = e ∙ sym (row-count w o) ∙ ap length (sym (rows-read w o l))
-
-  pub count-start : Counting w o 0 count
-  count-start =
-      record {
-        within = omega arith;
-        bounded = omega (arith, packed .objects o l .rows);
-        left = ap (λ (n : ℕ). n + additions (entriesFrom w o 0)) all-rows;
-      }
-
-  pub carry-start : {operation : Operation} (requested : model.Operation) → Requested w o operation requested → (rows : List (List ℕ))
-      → rowsOf rows (word w (objectStart o + 1)) ≡ rowsAt w o → Room base (decode base w) → Carrying w o requested 0 rows count
+module _ (w : List ℕ) (packed : Packed base w) (o : ℕ) (l : o < 16) (count : ℕ)
+    (e : count ≡ word w (objectStart o + 1)) where
+  pub carry-start : {operation : Operation} (requested : model.Operation) → Requested w o operation requested
+      → (rows : List (List ℕ)) → rowsOf rows (word w (objectStart o + 1)) ≡ rowsAt w o → Room base (decode base w)
+      → Carrying w o requested 0 rows count
   carry-start requested asked rows holds room =
       let rs : rowsOf rows count ≡ rowsAt w o = ap (rowsOf rows) e ∙ holds in
       record {
         within = omega arith;
-        room = omega (arith, all-rows, room o);
+        room = omega (arith, all-rows w packed o l count e, room o);
         formed = rw rs (asked .rows);
         fits = asked .entries;
         left = ap (λ (r : List model.Row). model.reply requested (replayed (entriesFrom w o 0) r)) rs;
@@ -74,12 +64,8 @@ module _ (w : List ℕ) (packed : Packed base w) (o : ℕ) (l : o < 16) (count :
 -- ---- Past an entry of another object
 
 module _ (w : List ℕ) (o i : ℕ) (l : i < word w 0) (other : word w (entryStart i + 1) ≡ o → ⊥) where
-  pub count-past : (used : ℕ) → Counting w o i used → Counting w o (i + 1) used
-  count-past used s =
-      record { within = omega arith; bounded = omega (arith, s .bounded); left = rw (← entries-other w o i l other) (s .left) }
-
-  pub carry-past : (requested : model.Operation) (rows : List (List ℕ)) (count : ℕ) → Carrying w o requested i rows count
-      → Carrying w o requested (i + 1) rows count
+  pub carry-past : (requested : model.Operation) (rows : List (List ℕ)) (count : ℕ)
+      → Carrying w o requested i rows count → Carrying w o requested (i + 1) rows count
   carry-past requested rows count s =
       let same = entries-other w o i l other in
       record {
@@ -92,22 +78,13 @@ module _ (w : List ℕ) (o i : ℕ) (l : i < word w 0) (other : word w (entrySta
 
 -- ---- At an entry of the object
 
-module _ {w : List ℕ} {i : ℕ} {operation : Operation} (at : EntryRead w i operation) (o : ℕ) (own : word w (entryStart i + 1) ≡ o) where
+module _ {w : List ℕ} {i : ℕ} {operation : Operation} (at : EntryRead w i operation) (o : ℕ)
+    (own : word w (entryStart i + 1) ≡ o) where
   here : entriesFrom w o i ≡ entryAt w i .entry ∷ entriesFrom w o (i + 1)
   here = entries-own w o i (at .inside) own
 
-  counted-here : additions (entriesFrom w o i) ≡ cond (adds (operationAt w i)) 1 0 + additions (entriesFrom w o (i + 1))
-  counted-here = ap additions here ∙ additions-first (entryAt w i .entry) (entriesFrom w o (i + 1))
-
-  pub count-own : (used n : ℕ) → Counting w o i used → n ≡ rowsNeeded (operation .number) → Counting w o (i + 1) (used + n)
-  count-own used n s e =
-      record {
-        within = omega (arith, at .inside);
-        bounded = omega (arith, s .bounded, needed-few (operation .number));
-        left = omega (arith, needs-rows at n e, counted-here, s .left);
-      }
-
-  module _ (requested : model.Operation) (rows : List (List ℕ)) (count : ℕ) (s : Carrying w o requested i rows count) where
+  module _ (requested : model.Operation) (rows : List (List ℕ)) (count : ℕ)
+      (s : Carrying w o requested i rows count) where
     abbrev X : ObjectType
     X = object model.reduceKey (model.kindOf requested)
 
@@ -115,7 +92,7 @@ module _ {w : List ℕ} {i : ℕ} {operation : Operation} (at : EntryRead w i op
     fits-here = rw here at (s .fits)
 
     next-room : length (nextOf operation (rowsOf rows count)) + additions (entriesFrom w o (i + 1)) ≤ 64
-    next-room = omega (arith, s .room, counted-here, next-grows at rows count)
+    next-room = omega (arith, s .room, counted-here at o own, next-grows at rows count)
 
     pub next-fits : (count ≤ 64) × (length (nextOf operation (rowsOf rows count)) ≤ 64)
     next-fits = (omega (arith, s .room), omega (arith, next-room))
@@ -126,23 +103,32 @@ module _ {w : List ℕ} {i : ℕ} {operation : Operation} (at : EntryRead w i op
       one-kind =
           let a = numbers requested in
           let b = rw (fits-here .0 .0) at (numbers (operationAt w i)) in
-          let n : operation .number ≡ model.numberOf (operationAt w i) = at .words .0 ∙ sym (at .packed .log .asStored i (at .inside) .0) in
-          (model.kindOf requested, (rw (request .number) (a .0), rw (request .number) (a .1)), (rw n (b .0), rw n (b .1)))
+          let n : operation .number ≡ model.numberOf (operationAt w i) =
+          at .words .0 ∙ sym (at .packed .log .asStored i (at .inside) .0) in (
+            model.kindOf requested,
+            (rw (request .number) (a .0), rw (request .number) (a .1)),
+            (rw n (b .0), rw n (b .1)),
+          )
 
       -- One that the request is recoverable against is left out.
-      pub carry-out : (test : Bool) → test ≡ pairOf recoverable asked operation → not test ≡ false → Carrying w o requested (i + 1) rows count
+      pub carry-out : (test : Bool) → test ≡ pairOf recoverable asked operation → not test ≡ false
+          → Carrying w o requested (i + 1) rows count
       carry-out test tested recovers =
           let held : recoverable requested (operationAt w i) ≡ true =
           sym (tested ∙ ap₂ (both recoverable) (request .named) (named at)) ∙ not-false test recovers in
           record {
             within = omega (arith, at .inside);
-            room = omega (arith, s .room, counted-here);
+            room = omega (arith, s .room, counted-here at o own);
             formed = s .formed;
             fits = fits-here .1;
             left =
-                ap (model.reply requested) (replayed-after (model.kindOf requested) (entriesFrom w o (i + 1)) (rowsOf rows count))
-                ∙ left-out-before X requested (entryAt w i .entry) (entriesFrom w o (i + 1)) (rowsOf rows count) (refl, request .key) fits-here (s .formed) held
-                ∙ ap (model.reply requested) (sym (replayed-after (model.kindOf requested) (entryAt w i .entry ∷ entriesFrom w o (i + 1)) (rowsOf rows count)))
+                ap (model.reply requested) (replayed-after (model.kindOf requested) (entriesFrom w o (i + 1))
+                (rowsOf rows count))
+                ∙ left-out-before X requested (entryAt w i .entry) (entriesFrom w o (i + 1)) (rowsOf rows count)
+                (refl, request .key) fits-here (s .formed) held
+                ∙ ap (model.reply requested)
+                (sym (replayed-after (model.kindOf requested) (entryAt w i .entry ∷ entriesFrom w o (i + 1))
+                (rowsOf rows count)))
                 ∙ ap (λ l. model.reply requested (replayed l (rowsOf rows count))) (sym here) ∙ s .left;
           }
 
@@ -155,7 +141,9 @@ module _ {w : List ℕ} {i : ℕ} {operation : Operation} (at : EntryRead w i op
         record {
           within = omega (arith, at .inside);
           room = omega (arith, counted, next-room);
-          formed = rw rs (valid-next model.reduceKey (model.kindOf requested) (operationAt w i) (rowsOf rows count) (fits-here .0) (s .formed));
+          formed =
+              rw rs (valid-next model.reduceKey (model.kindOf requested) (operationAt w i) (rowsOf rows count)
+              (fits-here .0) (s .formed));
           fits = fits-here .1;
           left =
               ap (λ (r : List model.Row). model.reply requested (replayed (entriesFrom w o (i + 1)) r)) rs
@@ -165,25 +153,26 @@ module _ {w : List ℕ} {i : ℕ} {operation : Operation} (at : EntryRead w i op
 -- ---- At the end
 
 module _ (w : List ℕ) (o i : ℕ) (l : word w 0 ≤ i) where
-  pub count-end : (used : ℕ) → Counting w o i used → used ≡ base .used (decode base w) o
-  count-end used s = omega (arith, ap additions (entries-end w o i l), s .left)
-
-  module _ (requested : model.Operation) (rows : List (List ℕ)) (count : ℕ) (s : Carrying w o requested i rows count) where
+  module _ (requested : model.Operation) (rows : List (List ℕ)) (count : ℕ)
+      (s : Carrying w o requested i rows count) where
     pub carry-counted : count ≤ 64
     carry-counted = omega (arith, s .room)
 
     pub carry-end : (asked : Operation) → operationOf asked ≡ some requested
         → replyOf asked (rowsOf rows count) ≡ replyOf asked (replayed (entriesFrom w o 0) (rowsAt w o))
     carry-end asked names =
-        ap (λ q. replyBy q (rowsOf rows count)) names ∙ ap (λ l. model.reply requested (replayed l (rowsOf rows count))) (sym (entries-end w o i l)) ∙ s .left
+        ap (λ q. replyBy q (rowsOf rows count)) names ∙ ap (λ l. model.reply requested (replayed l (rowsOf rows count)))
+        (sym (entries-end w o i l)) ∙ s .left
         ∙ ap (λ q. replyBy q (replayed (entriesFrom w o 0) (rowsAt w o))) (sym names)
 
 -- ---- The answer of the model
 
 -- What replay gives the operation that the words name is what the model answers to it.
-pub answer-to : (w : List ℕ) (o : ℕ) → o < 16 → (operation : Operation) (requested : model.Operation) → operationOf operation ≡ some requested
+pub answer-to : (w : List ℕ) (o : ℕ) → o < 16 → (operation : Operation) (requested : model.Operation)
+    → operationOf operation ≡ some requested
     → replyOf operation (replayed (entriesFrom w o 0) (rowsAt w o))
-    ≡ model.reply requested (after (object model.reduceKey (model.kindOf requested)) (onObject o (decode base w .log)) (objectOf (decode base w) o .rows))
+    ≡ model.reply requested (after (object model.reduceKey (model.kindOf requested)) (onObject o (decode base w .log))
+    (objectOf (decode base w) o .rows))
 answer-to w o l operation requested e =
     ap (λ q. replyBy q (replayed (entriesFrom w o 0) (rowsAt w o))) e
     ∙ ap (model.reply requested)

@@ -28,8 +28,10 @@ returns c =
     let asked = c .before .before .before in
     let start = asked .before .before in
     let row = start .args .row .now in
-    subst (λ (m : ℕ). WithOwner row m (start .args .owner) (set row (asked .wide .result) (c .join .result))) (column asked)
-    (with-owner row (asked .wide .result) _ _ _ (start .pre .0) (inside asked) (c .before .single .ensures) (c .join .ensures))
+    subst (λ (m : ℕ). WithOwner 5 row m (start .args .owner) (set row (asked .wide .result) (c .join .result)))
+    (column asked)
+    (with-owner 5 row (asked .wide .result) _ _ _ (start .pre .0) (inside asked) (c .before .single .ensures)
+    (c .join .ensures))
 
 pub add-owner-spec : {M : Type 1} → statement M
 add-owner-spec =

@@ -1,84 +1,54 @@
--- `dependencies::barring`: the owners picked at the columns passed.
-use Prim.Native.Nat.{_-_, _≤_, _<_}
+-- `dependencies::barring`: what `picked` says, at the number of each arm.
+use Prim.Native.Nat.{_≤_}
 use mathlib.Core.Path.{_≡_}
 use native.Mathlib.Omega.{arith}
-use Rattle.bitset.specs.Bitset.{Holds}
-use Rattle.operations.specs.PairRules.{recoverableRules, commutingRules}
-use Rattle.pairs.specs.Pairs.{widthOf}
-use Rattle.dependencies.specs.Dependencies.{Picked}
-use Rattle.dependencies.specs.Laws.Numbers.{ranged, picked-none, picked-more}
+use borrow.Author.Needs.{needs}
 use Rattle.dependencies.proofs.barring.Statement.{statement}
 use Rattle.dependencies.proofs.barring.Tie as tie
 
-abbrev Inv-loop : tie.InvT-loop
-Inv-loop number whole same recoverable commuting columns unrecoverable₀ conflicting₀ at₀ unrecoverable conflicting at =
-    (at ≤ widthOf number) × Holds unrecoverable (Picked recoverableRules number whole same at) × Holds conflicting (Picked commutingRules number whole same at)
-
-abbrev μ-loop : tie.MeasureT-loop
-μ-loop number whole same recoverable commuting columns unrecoverable₀ conflicting₀ at₀ unrecoverable conflicting at = widthOf number - at
-
-abbrev entered : tie.In-loop Inv-loop μ-loop → tie.Start Inv-loop μ-loop
-entered c = c .before .before .before .before .before
-
-loop-holds : tie.Need-loop-holds Inv-loop μ-loop
-loop-holds c =
-    let args = c .before .before .before .args in (
-      omega arith,
-      picked-none recoverableRules (args .number) (args .whole .now) (args .same .now),
-      picked-none commutingRules (args .number) (args .whole .now) (args .same .now),
-    )
-
-below : (c : tie.In-loop Inv-loop μ-loop) → c .before .loop .at < widthOf (entered c .args .number)
-below c = omega (arith, c .loop-test .taken, c .before .before .width .ensures)
-
-inside : (c : tie.In-loop Inv-loop μ-loop) → c .before .loop .at < 5
-inside c = omega (arith, below c, ranged (entered c .args .number) (entered c .pre) .width)
-
-abbrev turned : tie.After-join2 Inv-loop μ-loop → tie.In-loop Inv-loop μ-loop
-turned c = c .before .before .before .before .before .before
-
-loop-again : tie.Need-loop-again Inv-loop μ-loop
-loop-again c =
-    let joined = c .before .before in
-    let turn = turned c in
-    let at-loop = turn .before .loop in
-    let commuting = turn .before .before .before in
-    let args = entered turn .args in (
-      omega (arith, below turn),
-      picked-more recoverableRules (args .number) (args .whole .now) (args .same .now) (at-loop .at) _ _ _ _
-          (commuting .before .recoverable-row .ensures (at-loop .at) (below turn)) (joined .before .pick .ensures) (at-loop .inv .1) (joined .join .ensures),
-      picked-more commutingRules (args .number) (args .whole .now) (args .same .now) (at-loop .at) _ _ _ _
-          (commuting .commuting-row .ensures (at-loop .at) (below turn)) (c .before .pick2 .ensures) (at-loop .inv .2) (c .join2 .ensures),
-    )
-
-returns : tie.Need-returns Inv-loop μ-loop
-returns c =
-    let at-loop = c .before .loop in
-    let number = c .before .before .before .before .before .args .number in
-    let e : at-loop .at ≡ widthOf number = omega (arith, c .loop-test .left, c .before .before .width .ensures, at-loop .inv .0) in
-    (rw e at (at-loop .inv .1), rw e at (at-loop .inv .2))
+last : (c : tie.At-match-rest) → c .before .args .number ≡ 11
+last c =
+    let numbered = c .before .pre .0 in
+    let r = c .match .rest in
+    let q = r .0 .0 .0 .0 .0 in
+    let six : 6 ≤ c .before .args .number =
+    omega (arith, numbered .0, q .1, q .0 .1, q .0 .0 .1, q .0 .0 .0 .1, q .0 .0 .0 .0 .1) in
+    omega (arith, six, numbered .1, r .1, r .0 .1, r .0 .0 .1, r .0 .0 .0 .1, r .0 .0 .0 .0 .1)
 
 pub barring-spec : {M : Type 1} → statement M
 barring-spec =
     tie.close
     (tie.spec
-    Inv-loop
-    μ-loop
-    (λ c κs. c .pre)
-    (λ c κs. c .before .pre)
-    (λ c κs. tt)
-    loop-holds
-    (λ c. omega (arith, inside c))
-    (λ c. inside c)
-    (λ c. omega (arith, inside (c .before)))
-    (λ c. inside (c .before))
-    (λ c. inside (c .before .before))
-    (λ c κs. tt)
-    (λ c κs. tt)
-    (λ c. inside (c .before .before .before .before))
-    (λ c κs. tt)
-    (λ c κs. tt)
-    (λ c. omega (arith, inside (turned c)))
-    (λ c. omega (arith, below (turned c)))
-    loop-again
-    returns)
+    (λ c κs. search needs)
+    (λ c κs. search needs)
+    (λ c κs. search needs)
+    (λ c κs. search needs)
+    (λ c κs. search needs)
+    (λ c κs. search needs)
+    (λ c κs. search needs)
+    (λ c κs. search needs)
+    (λ c κs. search needs)
+    (λ c κs. search needs)
+    (λ c κs. search needs)
+    (λ c κs. search needs)
+    (λ c κs. search needs)
+    (λ c κs. search needs)
+    (λ c κs. search needs)
+    (λ c κs. search needs)
+    (λ c κs. search needs)
+    (λ c κs. search needs)
+    (λ c κs. search needs)
+    (λ c κs. search needs)
+    (λ c κs. search needs)
+    (λ c κs. search needs)
+    (λ c. rw (c .before .before .match .keys1) (c .picked .ensures))
+    (λ c. rw (c .before .before .match .keys2) (c .picked2 .ensures))
+    (λ c. rw (c .before .before .match .keys3) (c .picked3 .ensures))
+    (λ c. rw (c .before .before .match .keys4) (c .picked4 .ensures))
+    (λ c. rw (c .before .before .match .keys5) (c .picked5 .ensures))
+    (λ c. rw (c .before .before .match .keys6) (c .picked6 .ensures))
+    (λ c. rw (c .before .before .match .keys7) (c .picked7 .ensures))
+    (λ c. rw (c .before .before .match .keys8) (c .picked8 .ensures))
+    (λ c. rw (c .before .before .match .keys9) (c .picked9 .ensures))
+    (λ c. rw (c .before .before .match .keys10) (c .picked10 .ensures))
+    (λ c. rw (last (c .before .before)) (c .picked11 .ensures)))

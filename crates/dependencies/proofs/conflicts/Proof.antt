@@ -1,26 +1,28 @@
--- `dependencies::conflicts`: the sets of the entries passed, and the rows and chains by which the next is held against them.
+-- `dependencies::conflicts`: the sets of the entries passed, and the rows by which the next is held against them.
 use Prim.Native.Nat.{_-_, _≤_, _<_}
-use mathlib.Core.Path.{_≡_, refl, sym, _∙_}
+use mathlib.Core.Path.{_≡_, refl, sym, ap, _∙_}
 use native.Mathlib.Omega.{arith}
 use lib.ListN.{length, length-set}
 use Rattle.bitset.specs.Bitset.{Holds, Represents}
 use Rattle.operations.specs.PairRules.{commutes}
 use Rattle.store.specs.Layout.{word}
-use Rattle.dependencies.specs.Dependencies.{transactionAt, Readable, BarsBelow, Unrecoverable, Gathered, Chained}
-use Rattle.dependencies.specs.Laws.Entries.{readable}
+use Rattle.representatives.specs.Representatives.{transactionAt, InLog}
+use Rattle.representatives.specs.Laws.Reading.{readable}
+use Rattle.dependencies.specs.Dependencies.{BarsBelow, Unrecoverable, Gathered}
 use Rattle.dependencies.specs.Laws.Rows.{gathered-none}
-use Rattle.dependencies.specs.Laws.Chains.{chained-none}
-use Rattle.dependencies.specs.Laws.Gathering.{dependencies-none, dependencies-more, unrecoverable-none, unrecoverable-more, decided, decided-none}
+use Rattle.dependencies.specs.Laws.Gathering.{dependencies-none, dependencies-more, unrecoverable-none}
+use Rattle.dependencies.specs.Laws.Gathering.{unrecoverable-more, decided, decided-none}
 use Rattle.dependencies.proofs.conflicts.Statement.{statement}
 use Rattle.dependencies.proofs.conflicts.Tie as tie
 
 abbrev Inv-loop : tie.InvT-loop
-Inv-loop book count dependencies₀ whole₀ same₀ heads₀ links₀ unrecoverable₀ i₀ dependencies whole same heads links unrecoverable i =
-    (i ≤ word book 0) × (length dependencies ≡ 64) × Represents dependencies (BarsBelow commutes book i) × Holds unrecoverable (Unrecoverable book i)
-    × Chained book i heads links × Gathered book i whole same
+Inv-loop book reps dependencies₀ count whole₀ same₀ unrecoverable₀ i₀ dependencies whole same unrecoverable i =
+    (i ≤ word book 0) × (length dependencies ≡ 64) × Represents dependencies (BarsBelow commutes book i)
+    × Holds unrecoverable (Unrecoverable book i) × Gathered book i whole same
 
 abbrev μ-loop : tie.MeasureT-loop
-μ-loop book count dependencies₀ whole₀ same₀ heads₀ links₀ unrecoverable₀ i₀ dependencies whole same heads links unrecoverable i = word book 0 - i
+μ-loop book reps dependencies₀ count whole₀ same₀ unrecoverable₀ i₀ dependencies whole same unrecoverable i =
+    word book 0 - i
 
 entry-count-requires : tie.Need-entry-count-requires Inv-loop μ-loop
 entry-count-requires c κs = c .before .pre .0 .words
@@ -28,16 +30,17 @@ entry-count-requires c κs = c .before .pre .0 .words
 returns : tie.Need-returns Inv-loop μ-loop
 returns c =
     let start = c .before .before .before in
-    decided-none (start .args .book .now) (start .pre .1) (start .pre .2) 64 (sym (c .before .entry-count .ensures) ∙ c .if1 .taken)
+    decided-none (start .args .book .now) (start .pre .2) _ (start .pre .4)
+    (sym (c .before .entry-count .ensures) ∙ c .if1 .taken)
 
 loop-holds : tie.Need-loop-holds Inv-loop μ-loop
 loop-holds c =
-    let book = c .before .before .before .args .book .now in (
+    let start = c .before .before .before in
+    let book = start .args .book .now in (
       omega arith,
-      refl,
-      dependencies-none book 64,
+      ap length (start .pre .4),
+      dependencies-none book _ (start .pre .4),
       unrecoverable-none book,
-      chained-none book 256 257 refl refl,
       gathered-none book 16 256 refl refl,
     )
 
@@ -45,26 +48,40 @@ abbrev start-of : tie.In-loop Inv-loop μ-loop → tie.Start Inv-loop μ-loop
 start-of c = c .before .before .before .before .before
 
 -- The entry is in the log.
-inside : (c : tie.In-loop Inv-loop μ-loop) → Readable (start-of c .args .book .now) × (c .before .loop .i < word (start-of c .args .book .now) 0)
+inside : (c : tie.In-loop Inv-loop μ-loop) → InLog (start-of c .args .book .now) (c .before .loop .i)
 inside c =
-    let start = start-of c in
-    (readable (start .args .book .now) (start .pre .1) (start .pre .2) (start .pre .0), omega (arith, c .loop-test .taken, c .before .before .before .entry-count .ensures))
+    let start = start-of c in (
+      readable (start .args .book .now) (start .pre .1) (start .pre .2) (start .pre .0),
+      omega (arith, c .loop-test .taken, c .before .before .before .entry-count .ensures),
+    )
+
+below : (c : tie.In-loop Inv-loop μ-loop) → c .before .loop .i < 256
+below c = let l = inside c in omega (arith, l .1, l .0 .entries)
+
+cast-enter : tie.Need-cast-enter Inv-loop μ-loop
+cast-enter c =
+    let turn = c .before in
+    omega (arith, below turn, start-of turn .pre .3 .each (turn .before .loop .i) (inside turn .1) .within)
+
+abbrev turning : tie.After-same Inv-loop μ-loop → tie.In-loop Inv-loop μ-loop
+turning c = c .before .before .before
 
 enter-requires : tie.Need-enter-requires Inv-loop μ-loop
 enter-requires c κs =
-    let turn = c .before .before .before .before in
+    let turn = turning c in
     let l = inside turn in
-    (l .0, l .1, turn .before .loop .inv .4, turn .before .loop .inv .5)
+    (l, start-of turn .pre .3 .each _ (l .1), turn .before .loop .inv .4)
 
 abbrev turned : tie.After-enter Inv-loop μ-loop → tie.In-loop Inv-loop μ-loop
-turned c = c .before .before .before .before .before
+turned c = turning (c .before)
 
 entry-transaction-requires : tie.Need-entry-transaction-requires Inv-loop μ-loop
 entry-transaction-requires c κs = let l = inside (turned c) in (l .0 .words, omega (arith, l .1, l .0 .entries))
 
 -- The requester is the entry's transaction.
 requester : (c : tie.After-wide Inv-loop μ-loop)
-    → (c .wide .result ≡ transactionAt (start-of (turned (c .before .before)) .args .book .now) (turned (c .before .before) .before .loop .i)) × (c .wide .result < 64)
+    → (let turn = turned (c .before .before) in
+    (c .wide .result ≡ transactionAt (start-of turn .args .book .now) (turn .before .loop .i)) × (c .wide .result < 64))
 requester c =
     let turn = turned (c .before .before) in
     let l = inside turn in
@@ -73,7 +90,7 @@ requester c =
 
 loop-again : tie.Need-loop-again Inv-loop μ-loop
 loop-again c =
-    let asked = c .before .before in
+    let asked = c .before .before .before in
     let entered = asked .before .before in
     let turn = turned entered in
     let book = start-of turn .args .book .now in
@@ -82,11 +99,11 @@ loop-again c =
     let l : length (at-loop .dependencies) ≡ 64 = at-loop .inv .1 in (
       omega (arith, inside turn .1),
       simp length-set l,
-      dependencies-more book (at-loop .dependencies) (at-loop .i) (asked .wide .result) _ _ (requester asked .0) (omega (arith, requester asked .1)) (at-loop .inv .2)
+      dependencies-more book (at-loop .dependencies) (at-loop .i) (asked .wide .result) _ _ (requester asked .0)
+          (omega (arith, requester asked .1)) (at-loop .inv .2)
           (found .0 .conflictings) (c .before .join .ensures),
       unrecoverable-more book (at-loop .i) _ _ _ (at-loop .inv .3) (found .0 .unrecoverables) (c .join2 .ensures),
       found .1,
-      found .2,
     )
 
 returns-2 : tie.Need-returns-2 Inv-loop μ-loop
@@ -94,8 +111,12 @@ returns-2 c =
     let start = c .before .before .before .before .before in
     let book = start .args .book .now in
     let at-loop = c .before .loop in
-    let e : at-loop .i ≡ word book 0 = omega (arith, c .loop-test .left, c .before .before .before .entry-count .ensures, at-loop .inv .0) in
-    decided book (start .pre .1) (start .pre .2) (at-loop .dependencies) (at-loop .unrecoverable) (rw e at (at-loop .inv .2)) (rw e at (at-loop .inv .3))
+    let count = c .before .before .before .entry-count .ensures in
+    let e : at-loop .i ≡ word book 0 = omega (arith, c .loop-test .left, count, at-loop .inv .0) in
+    let (recoverable, represented) =
+    decided book (start .pre .2) (at-loop .dependencies) (at-loop .unrecoverable) (rw e at (at-loop .inv .2))
+    (rw e at (at-loop .inv .3)) in
+    (recoverable, at-loop .inv .1, represented)
 
 pub conflicts-spec : {M : Type 1} → statement M
 conflicts-spec =
@@ -106,16 +127,19 @@ conflicts-spec =
     entry-count-requires
     returns
     loop-holds
+    (λ c. omega (arith, below c))
+    (λ c. below c)
+    cast-enter
     enter-requires
     entry-transaction-requires
     (λ c κs. tt)
     (λ c. omega (arith, requester c .1))
     (λ c. requester c .1)
     (λ c κs. tt)
-    (λ c. omega (arith, requester (c .before) .1))
-    (λ c. requester (c .before) .1)
+    (λ c. omega (arith, requester (c .before .before) .1))
+    (λ c. requester (c .before .before) .1)
     (λ c κs. tt)
-    (λ c. let l = inside (turned (c .before .before .before .before)) in omega (arith, l .1, l .0 .entries))
-    (λ c. omega (arith, inside (turned (c .before .before .before .before)) .1))
+    (λ c. omega (arith, below (turned (c .before .before .before .before .before))))
+    (λ c. omega (arith, inside (turned (c .before .before .before .before .before)) .1))
     loop-again
     returns-2)

@@ -1,4 +1,5 @@
--- `dependencies::gather`: entry i's owner is put into the row of its object, and into that of the entry which represents it.
+-- `dependencies::gather`: entry i's owner is put into the row of its object, and into that of the entry which
+-- represents it.
 use Prim.Native.Nat.{_<_}
 use native.Mathlib.Omega.{arith}
 use borrow.Author.Needs.{needs}
@@ -7,27 +8,28 @@ use Rattle.dependencies.proofs.gather.Statement.{statement}
 use Rattle.dependencies.proofs.gather.Tie as tie
 
 below : (start : tie.Start) → start .args .at < 256
-below start = omega (arith, start .pre .0 .entries, start .pre .1, start .pre .2 .within)
+below start = omega (arith, start .pre .0 .0 .entries, start .pre .0 .1, start .pre .1 .within)
 
 add-owner-requires : tie.Need-add-owner-requires
 add-owner-requires c κs =
     let read = c .before .read .ensures in
-    (c .before .before .before .pre .3 .onObject _ (read .within) .columns, read .numbered, read .live)
+    (c .before .before .before .pre .2 .onObject _ (read .within) .columns, read .numbered, read .live)
 
-add-owner-requires-2 : tie.Need-add-owner-requires-2
-add-owner-requires-2 c κs =
+add-key-owner-requires : tie.Need-add-key-owner-requires
+add-key-owner-requires c κs =
     let asked = c .before .before .before in
     let read = asked .read .ensures in
     let start = asked .before .before in
-    (start .pre .3 .represented _ (below start) (start .pre .2 .first) .columns, read .numbered, read .live)
+    (start .pre .2 .represented _ (below start) (start .pre .1 .first) .columns, read .live)
 
 returns : tie.Need-returns
 returns c =
     let added = c .before .before in
     let asked = added .before .before in
     let start = asked .before .before in
-    gathered-more (start .args .book .now) (start .args .i) (start .args .whole .now) (start .args .same .now) (start .pre .3) _ _ _ (start .args .at) _ _
-    (asked .read .ensures) (below start) (start .pre .2) (added .add-owner .ensures) (c .add-owner2 .ensures)
+    gathered-more (start .args .book .now) (start .args .i) (start .args .whole .now) (start .args .same .now)
+    (start .pre .2) _ _ _ (start .args .at) _ _
+    (asked .read .ensures) (below start) (start .pre .1) (added .add-owner .ensures) (c .add-key-owner .ensures)
 
 pub gather-spec : {M : Type 1} → statement M
 gather-spec =
@@ -39,5 +41,5 @@ gather-spec =
     add-owner-requires
     (λ c. search needs)
     (λ c. search needs)
-    add-owner-requires-2
+    add-key-owner-requires
     returns)

@@ -8,7 +8,8 @@ use Rattle.dependencies.proofs.read.Tie as tie
 returns : tie.Need-returns
 returns c =
     let start = c .before .before .before .before .before in
-    entry-read (start .args .book .now) (start .pre .0) (start .args .i) (start .pre .1) _ _ _ (c .before .before .entry-transaction .ensures)
+    entry-read (start .args .book .now) (start .pre .0) (start .args .i) (start .pre .1) _ _ _
+    (c .before .before .entry-transaction .ensures)
     (c .wide .ensures ∙ c .before .entry-object .ensures) (c .before .before .before .entry-operation .ensures .0)
 
 pub read-spec : {M : Type 1} → statement M

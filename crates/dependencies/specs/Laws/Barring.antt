@@ -1,5 +1,5 @@
 -- How rows of owners bar an entry.
-use Prim.Native.Nat.{ℕ, _<_}
+use Prim.Native.Nat.{ℕ, _+_, _<_}
 use mathlib.Core.Path.{_≡_, refl, sym, ap, subst, _∙_}
 use mathlib.Core.Bool.{false, _&&_, not}
 use mathlib.Core.Logic.{⊎-elim}
@@ -9,14 +9,18 @@ use borrow.Author.Tests.{eq-eqb}
 use lib.Dec.{eqb}
 use lib.ListN.{getD}
 use Rattle.operations.specs.Operations.{Kind, kindOf, keyOf}
-use Rattle.operations.specs.PairRules.{Rule, never, apart, Rules, allows, ruleAt, ruleFor, related, firstNumber, lastNumber, recoverableRules, commutingRules}
+use Rattle.operations.specs.PairRules.{Rule, never, apart, Rules, allows, ruleAt, ruleFor, related, firstNumber}
+use Rattle.operations.specs.PairRules.{lastNumber, recoverableRules, commutingRules}
 use Rattle.operations.specs.Laws.Cases
 use Rattle.bitset.specs.Bitset.{has, Members, Holds, Represents}
-use Rattle.pairs.specs.Pairs.{Numbered, kindNumbered, columnOf, widthOf}
+use Rattle.pairs.specs.Pairs.{Numbered, kindNumbered, firstOf, columnOf, widthOf}
 use Rattle.store.specs.Layout.{word, operationAt}
-use Rattle.dependencies.specs.Dependencies.{transactionAt, objectAt, numberAt, keyAt, Readable, Bars, Barred, Picked, Owned, EntryRead, On, Alike, Representative, Gathered}
+use Rattle.representatives.specs.Representatives.{transactionAt, objectAt, numberAt, keyAt, Readable, Representative}
+use Rattle.dependencies.specs.Dependencies.{Bars, Barred, keyColumn, Picked, PickedBoth, EntryRead}
+use Rattle.dependencies.specs.Dependencies.{Owned, On, AlikeByKey, Gathered}
 use Rattle.dependencies.specs.Laws.Sets.{holds-same, holds-without}
 use Rattle.dependencies.specs.Laws.Numbers.{ranged, placed, picked-of, picked-from}
+use Rattle.dependencies.specs.Laws.Columns.{Told, recoverable-told, commuting-told, apart-shared}
 use Rattle.dependencies.specs.Laws.Rows.{row-alike}
 
 module _ (w : List ℕ) (readable : Readable w) where
@@ -40,6 +44,11 @@ module _ (w : List ℕ) (readable : Readable w) where
         let r = ranged (numberAt w j) (numbered j m) in
         omega (arith, r .least, r .most, ap firstNumber kind-read, ap lastNumber kind-read)
 
+    -- The number of the logged operation, by its column.
+    column-read : firstOf (numberAt w i) + columnOf (numberAt w j) ≡ numberAt w j
+    column-read =
+        let r = ranged (numberAt w j) (numbered j m) in omega (arith, r .least, ap firstNumber kind-read)
+
     key-read : keyAt w j ≡ keyAt w i → keyOf (operationAt w i) ≡ keyOf (operationAt w j)
     key-read k = readable .stored i l .1 ∙ (sym k ∙ sym (readable .stored j m .1))
 
@@ -47,73 +56,109 @@ module _ (w : List ℕ) (readable : Readable w) where
     key-written k = sym (readable .stored j m .1) ∙ (sym k ∙ readable .stored i l .1)
 
   module _ (i : ℕ) (l : i < word w 0) (whole same : List ℕ)
-      (held : Represents whole (Owned (On w (objectAt w i)) w i)) (held-alike : Represents same (Owned (Alike w i) w i)) (rules : Kind → Rules) where
+      (held : Represents whole (Owned columnOf (On w (objectAt w i)) w i))
+      (held-alike : Represents same (Owned keyColumn (AlikeByKey w i) w i)) (rules : Kind → Rules)
+      (told : Told rules) where
     abbrev Columns : ℕ → Type 0
     Columns b = Picked rules (numberAt w i) whole same (widthOf (numberAt w i)) b
 
     abbrev ruleOf : ℕ → Rule
     ruleOf m = ruleAt (rules (kindNumbered (numberAt w i))) (columnOf (numberAt w i)) m
 
+    abbrev keyColumnOf : ℕ → ℕ
+    keyColumnOf m = keyColumn (firstOf (numberAt w i) + m)
+
+    shared : (m n : ℕ) → m < widthOf (numberAt w i) → n < widthOf (numberAt w i) → ruleOf m ≡ apart
+        → (keyColumnOf m < 3) × (keyColumnOf n ≡ keyColumnOf m → ruleOf n ≡ apart)
+    shared m n k h =
+        apart-shared rules told (kindNumbered (numberAt w i)) (columnOf (numberAt w i)) m n
+        (omega (arith, column-below i i l l refl)) (omega arith) (omega arith)
+
     -- An earlier entry of the object whose rule says no.
-    refused : (b m j : ℕ) (r : Rule) → (b ≡ transactionAt w i → ⊥) → j < i → objectAt w j ≡ objectAt w i → columnOf (numberAt w j) ≡ m → transactionAt w j ≡ b
-        → ruleOf m ≡ r → allows r (operationAt w i) (operationAt w j) ≡ false → Bars (related rules) w i b
-    refused b m j r other n o c t e f = (
-      j,
-      n,
-      (
-        t,
-        record {
-          object = o;
-          other = λ q. other (sym t ∙ q);
-          fails = ap (λ (x : Rule). allows x (operationAt w i) (operationAt w j)) (rule-read i j l (omega arith) o rules ∙ (ap ruleOf c ∙ e)) ∙ f;
-        },
-      ),
-    )
+    refused : (b j : ℕ) (r : Rule) → (b ≡ transactionAt w i → ⊥) → j < i → objectAt w j ≡ objectAt w i
+        → transactionAt w j ≡ b → ruleOf (columnOf (numberAt w j)) ≡ r
+        → allows r (operationAt w i) (operationAt w j) ≡ false → Bars (related rules) w i b
+    refused b j r other n o t e f =
+        let rule = rule-read i j l (omega arith) o rules ∙ e in (
+          j,
+          n,
+          (
+            t,
+            record {
+              object = o;
+              other = λ q. other (sym t ∙ q);
+              fails = ap (λ (x : Rule). allows x (operationAt w i) (operationAt w j)) rule ∙ f;
+            },
+          ),
+        )
 
     picked-bars : (b : ℕ) → Columns b × (b ≡ transactionAt w i → ⊥) → Bars (related rules) w i b
     picked-bars b ((m, n, h), other) =
         ⊎-elim
-        (λ p. let (j, k, (o, c, t)) = held m b .0 (p .1) in refused b m j never other k o c t (p .0) refl)
         (λ p.
-        let (j, k, ((o, key), c, t)) = held-alike m b .0 (p .1) in
-        refused b m j apart other k o c t (p .0)
-        (rw (eq-eqb (keyOf (operationAt w i)) (keyOf (operationAt w j)) (key-read i j l (omega arith) o key))))
-        (picked-from (getD whole m 0) (getD same m 0) b (ruleOf m) h)
+        let (j, k, (o, c, t)) = held m b .0 (p .1) in refused b j never other k o t (ap ruleOf c ∙ p .0) refl)
+        (λ p.
+        let (j, k, (((o, key), tells), c, t)) = held-alike (keyColumnOf m) b .0 (p .1) in
+        let g : j < word w 0 = omega arith in
+        let rule = shared m (columnOf (numberAt w j)) n (column-below i j l g o) (p .0) .1 in
+        refused b j apart other k o t (rule (ap keyColumn (column-read i j l g o) ∙ c))
+        (rw (eq-eqb (keyOf (operationAt w i)) (keyOf (operationAt w j)) (key-read i j l g o key))))
+        (picked-from (getD whole m 0) (getD same (keyColumnOf m) 0) b (ruleOf m) h)
 
     bars-picked : (b : ℕ) → Bars (related rules) w i b → Columns b × (b ≡ transactionAt w i → ⊥)
     bars-picked b (j, n, (t, f)) =
         let k : j < word w 0 = omega arith in
         let o = f .object in
-        let m = columnOf (numberAt w j) in (
+        let m = columnOf (numberAt w j) in
+        let inside = column-below i j l k o in
+        let column = column-read i j l k o in
+        let said = ap (λ (x : Rule). allows x (operationAt w i) (operationAt w j))
+        (sym (rule-read i j l k o rules)) in (
           (
             m,
-            column-below i j l k o,
-            picked-of (getD whole m 0) (getD same m 0) b (operationAt w i) (operationAt w j) (ruleOf m)
-                (ap (λ (x : Rule). allows x (operationAt w i) (operationAt w j)) (sym (rule-read i j l k o rules)) ∙ f .fails)
-                (held m b .1 (j, n, (o, refl, t))) (λ key. held-alike m b .1 (j, n, ((o, key-written i j l k o key), refl, t))),
+            inside,
+            picked-of (getD whole m 0) (getD same (keyColumnOf m) 0) b (operationAt w i)
+                (operationAt w j) (ruleOf m) (said ∙ f .fails) (held m b .1 (j, n, (o, refl, t)))
+                (λ e key.
+                held-alike (keyColumnOf m) b .1 (
+                  j,
+                  n,
+                  (
+                    ((o, key-written i j l k o key), rw column at (shared m m inside inside e .0)),
+                    ap keyColumn (sym column),
+                    t,
+                  ),
+                )),
           ),
           λ q. f .other (t ∙ q),
         )
 
-    bars : (s u : ℕ) → Holds s Columns → Members u (λ b. has s b && not (eqb b (transactionAt w i))) → Holds u (Bars (related rules) w i)
+    bars : (s u : ℕ) → Holds s Columns → Members u (λ b. has s b && not (eqb b (transactionAt w i)))
+        → Holds u (Bars (related rules) w i)
     bars s u h without =
-        holds-same (λ b. Columns b × (b ≡ transactionAt w i → ⊥)) (Bars (related rules) w i) u (holds-without Columns s (transactionAt w i) u h without)
+        holds-same (λ b. Columns b × (b ≡ transactionAt w i → ⊥)) (Bars (related rules) w i) u
+        (holds-without Columns s (transactionAt w i) u h without)
         (λ b. (picked-bars b, bars-picked b))
 
-  pub barred : (i : ℕ) → i < word w 0 → (whole same : List (List ℕ)) → Gathered w i whole same → (t o number p u v u′ v′ : ℕ) → EntryRead w i t o number
-      → Representative w i p
-      → Holds u (Picked recoverableRules number (getD whole o []) (getD same p []) (widthOf number))
-      → Holds v (Picked commutingRules number (getD whole o []) (getD same p []) (widthOf number))
+  pub barred : (i : ℕ) → i < word w 0 → (whole same : List (List ℕ)) → Gathered w i whole same
+      → (t o number p u v u′ v′ : ℕ) → EntryRead w i t o number → Representative w i p
+      → PickedBoth number (getD whole o []) (getD same p []) u v
       → Members u′ (λ b. has u b && not (eqb b t)) → Members v′ (λ b. has v b && not (eqb b t)) → Barred w i u′ v′
-  barred i l whole same g t o number p u v u′ v′ read by picked-u picked-v without-u without-v =
-      let barring = bars i l (getD whole (objectAt w i) []) (getD same p []) (g .onObject (objectAt w i) (readable .objects i l) .sets)
+  barred i l whole same g t o number p u v u′ v′ read by chosen without-u without-v =
+      let barring = bars i l (getD whole (objectAt w i) []) (getD same p [])
+      (g .onObject (objectAt w i) (readable .objects i l) .sets)
       (row-alike w i whole same g p (omega (arith, by .within, readable .entries)) by) in
       record {
-        unrecoverables = barring recoverableRules u u′ (rw (read .of-object, read .of-number) at picked-u) (rw (read .of-transaction) at without-u);
-        conflictings = barring commutingRules v v′ (rw (read .of-object, read .of-number) at picked-v) (rw (read .of-transaction) at without-v);
+        unrecoverables = barring recoverableRules recoverable-told u u′
+            (rw (read .of-object, read .of-number) at (chosen .unrecoverables))
+            (rw (read .of-transaction) at without-u);
+        conflictings = barring commutingRules commuting-told v v′
+            (rw (read .of-object, read .of-number) at (chosen .conflictings))
+            (rw (read .of-transaction) at without-v);
       }
 
-  pub entry-read : (i : ℕ) → i < word w 0 → (t o number : ℕ) → t ≡ transactionAt w i → o ≡ objectAt w i → number ≡ numberAt w i → EntryRead w i t o number
+  pub entry-read : (i : ℕ) → i < word w 0 → (t o number : ℕ) → t ≡ transactionAt w i → o ≡ objectAt w i
+      → number ≡ numberAt w i → EntryRead w i t o number
   entry-read i l t o number et eo en =
       record {
         of-transaction = et;

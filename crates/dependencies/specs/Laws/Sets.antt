@@ -36,13 +36,15 @@ holds-none P none b = (λ e. absurd (nobody-in 0 b refl e), λ p. absurd (none b
 pub holds-same : (P Q : ℕ → Type 0) (s : ℕ) → Holds s P → ((b : ℕ) → P b ↔ Q b) → Holds s Q
 holds-same P Q s p e b = (λ h. e b .0 (p b .0 h), λ q. p b .1 (e b .1 q))
 
-pub holds-join : (P Q : ℕ → Type 0) (s t u : ℕ) → Holds s P → Holds t Q → Members u (λ b. has s b || has t b) → Holds u (λ b. P b ⊎ Q b)
+pub holds-join : (P Q : ℕ → Type 0) (s t u : ℕ) → Holds s P → Holds t Q → Members u (λ b. has s b || has t b)
+    → Holds u (λ b. P b ⊎ Q b)
 holds-join P Q s t u p q m b = (
   λ e. ⊎-elim (λ f. inl (p b .0 f)) (λ f. inr (q b .0 f)) (in-union u s t m b .0 e),
   λ f. in-union u s t m b .1 (⊎-elim (λ x. inl (p b .1 x)) (λ x. inr (q b .1 x)) f),
 )
 
-pub holds-without : (P : ℕ → Type 0) (s t u : ℕ) → Holds s P → Members u (λ b. has s b && not (eqb b t)) → Holds u (λ b. P b × (b ≡ t → ⊥))
+pub holds-without : (P : ℕ → Type 0) (s t u : ℕ) → Holds s P → Members u (λ b. has s b && not (eqb b t))
+    → Holds u (λ b. P b × (b ≡ t → ⊥))
 holds-without P s t u p m b = (
   λ e. let r = in-rest u s t m b .0 e in (p b .0 (r .0), r .1),
   λ q. in-rest u s t m b .1 (p b .1 (q .0), q .1),
@@ -52,12 +54,14 @@ holds-without P s t u p m b = (
 pub holds-empty : (P : ℕ → Type 0) (s : ℕ) → Holds s P → (eqb s 0 ≡ true) ↔ ((b : ℕ) → P b → ⊥)
 holds-empty P s p = (
   λ e b q. nobody-in s b (eqb-true s 0 e) (p b .1 q),
-  λ none. eq-eqb s 0 (empty s .1 (λ b. split (has s b) (λ (t : has s b ≡ true). absurd (none b (p b .0 t))) (λ (t : has s b ≡ false). t))),
+  λ none. eq-eqb s 0 (empty s .1
+      (λ b. split (has s b) (λ (t : has s b ≡ true). absurd (none b (p b .0 t))) (λ (t : has s b ≡ false). t))),
 )
 
 -- ---- A row of sets
 
-pub represents-same : (R S : ℕ → ℕ → Type 0) (row : List ℕ) → Represents row R → ((a b : ℕ) → R a b ↔ S a b) → Represents row S
+pub represents-same : (R S : ℕ → ℕ → Type 0) (row : List ℕ) → Represents row R → ((a b : ℕ) → R a b ↔ S a b)
+    → Represents row S
 represents-same R S row r e a = holds-same (R a) (S a) (getD row a 0) (r a) (e a)
 
 -- Empty sets.
@@ -70,7 +74,8 @@ pub blank-row : (n : ℕ) (R : ℕ → ℕ → Type 0) → ((a b : ℕ) → R a 
 blank-row n R none a = rw (blank n a) (holds-none (R a) (none a))
 
 -- One set joined with another, at place t.
-pub represents-join : (R : ℕ → ℕ → Type 0) (Q : ℕ → Type 0) (row : List ℕ) (t s u : ℕ) → Represents row R → Holds s Q → t < length row
+pub represents-join : (R : ℕ → ℕ → Type 0) (Q : ℕ → Type 0) (row : List ℕ) (t s u : ℕ) → Represents row R → Holds s Q
+    → t < length row
     → Members u (λ b. has (getD row t 0) b || has s b) → Represents (set row t u) (λ a b. R a b ⊎ ((t ≡ a) × Q b))
 represents-join R Q row t s u r q l m a =
     same a t
@@ -83,11 +88,12 @@ represents-join R Q row t s u r q l m a =
     (holds-same (R a) (λ b. R a b ⊎ ((t ≡ a) × Q b)) (getD row a 0) (r a)
     (λ b. (inl, ⊎-elim (λ x. x) (λ x. absurd (e (sym (x .0))))))))
 
-pub with-owner : (row : List ℕ) (m t s u : ℕ) → length row ≡ 5 → m < 5 → Members s (λ b. eqb b t) → Members u (λ b. has (getD row m 0) b || has s b)
-    → WithOwner row m t (set row m u)
-with-owner row m t s u columns l single joined =
+pub with-owner : (n : ℕ) (row : List ℕ) (m t s u : ℕ) → length row ≡ n → m < n → Members s (λ b. eqb b t)
+    → Members u (λ b. has (getD row m 0) b || has s b) → WithOwner n row m t (set row m u)
+with-owner n row m t s u columns l single joined =
     record {
       columns = length-set row m u ∙ columns;
       sets = represents-join (λ n b. has (getD row n 0) b ≡ true) (λ b. t ≡ b) row m s u (λ n b. (λ e. e, λ e. e))
-          (λ b. (λ e. sym (eqb-true b t (sym (single b) ∙ e)), λ e. single b ∙ eq-eqb b t (sym e))) (omega arith) joined;
+          (λ b. (λ e. sym (eqb-true b t (sym (single b) ∙ e)), λ e. single b ∙ eq-eqb b t (sym e))) (omega arith)
+          joined;
     }

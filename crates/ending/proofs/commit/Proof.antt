@@ -10,7 +10,10 @@ end-requires c κs =
     let carry = c .before .before .before in
     let start = carry .before .before .before in
     let book = start .args .book .now in
-    (is-packed _ _ (carried-held book (start .pre .0) (start .args .transaction) (start .pre .2) (start .pre .3) _ (carry .carry-out .ensures)), start .pre .1)
+    let pre = start .pre in
+    let t = start .args .transaction in
+    let carried = carried-held book (pre .0) t (pre .2) (pre .3) _ (carry .carry-out .ensures) in
+    (is-packed _ _ carried, pre .1)
 
 returns : tie.Need-returns
 returns c =
@@ -18,8 +21,10 @@ returns c =
     let carry = end .before .before .before .before in
     let start = carry .before .before .before in
     let book = start .args .book .now in
-    then-ended book (start .pre .0) (start .args .transaction) _ _
-    (carried-held book (start .pre .0) (start .args .transaction) (start .pre .2) (start .pre .3) _ (carry .carry-out .ensures)) (end .end .ensures)
+    let pre = start .pre in
+    let t = start .args .transaction in
+    let carried = carried-held book (pre .0) t (pre .2) (pre .3) _ (carry .carry-out .ensures) in
+    then-ended book (pre .0) t _ _ carried (end .end .ensures)
 
 pub commit-spec : {M : Type 1} → statement M
 commit-spec =

@@ -9,14 +9,20 @@ set-status-requires : tie.Need-set-status-requires
 set-status-requires c κs =
     let remove = c .before .before .before in
     let start = remove .before .before .before .before .before in
-    (is-packed _ _ (without-entries (start .args .book .now) (start .pre .0) (start .args .transaction) _ (remove .remove .ensures)), start .pre .1)
+    let args = start .args in (
+      is-packed _ _ (without-entries (args .book .now) (start .pre .0) (args .transaction) _ (remove .remove .ensures)),
+      start .pre .1,
+    )
 
 close-ranks-requires : tie.Need-close-ranks-requires
 close-ranks-requires c κs =
     let set = c .before .before .before .before in
     let remove = set .before .before .before .before in
     let start = remove .before .before .before .before .before in
-    is-packed _ _ (without-status (start .args .book .now) (start .pre .0) (start .args .transaction) _ (remove .remove .ensures) _ (set .set-status .ensures))
+    let args = start .args in
+    is-packed _ _
+    (without-status (args .book .now) (start .pre .0) (args .transaction) _ (remove .remove .ensures) _
+    (set .set-status .ensures))
 
 returns : tie.Need-returns
 returns c =
@@ -26,8 +32,11 @@ returns c =
     let remove = set .before .before .before .before in
     let status = remove .before .before in
     let start = status .before .before .before in
-    ranked-ended (start .args .book .now) (start .pre .0) (start .args .transaction) _ (start .pre .1) (status .status-word .ensures) _ _
-    (without-status (start .args .book .now) (start .pre .0) (start .args .transaction) _ (remove .remove .ensures) _ (set .set-status .ensures))
+    let args = start .args in
+    let pre = start .pre in
+    ranked-ended (args .book .now) (pre .0) (args .transaction) _ (pre .1) (status .status-word .ensures) _ _
+    (without-status (args .book .now) (pre .0) (args .transaction) _ (remove .remove .ensures) _
+    (set .set-status .ensures))
     (test .if1 .taken) (close .close-ranks .ensures)
 
 returns-2 : tie.Need-returns-2
@@ -36,8 +45,11 @@ returns-2 c =
     let remove = set .before .before .before .before in
     let status = remove .before .before in
     let start = status .before .before .before in
-    unranked-ended (start .args .book .now) (start .pre .0) (start .args .transaction) _ (start .pre .1) (status .status-word .ensures) _
-    (without-status (start .args .book .now) (start .pre .0) (start .args .transaction) _ (remove .remove .ensures) _ (set .set-status .ensures))
+    let args = start .args in
+    let pre = start .pre in
+    unranked-ended (args .book .now) (pre .0) (args .transaction) _ (pre .1) (status .status-word .ensures) _
+    (without-status (args .book .now) (pre .0) (args .transaction) _ (remove .remove .ensures) _
+    (set .set-status .ensures))
     (c .if1 .left)
 
 pub end-spec : {M : Type 1} → statement M

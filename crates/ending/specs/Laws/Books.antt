@@ -22,5 +22,6 @@ module _ (w : List ℕ) (s : Store) (h : Encodes w s) where
   is-decoded = ap (decode base) (h .words) ∙ decoded s (h .fits)
 
   -- A change of what the words hold is one of the store.
-  pub changed : (f : Store → Store) (after : List ℕ) → after ≡ encode base (f (decode base w)) → Representable base (f s) → Encodes after (f s)
+  pub changed : (f : Store → Store) (after : List ℕ) → after ≡ encode base (f (decode base w))
+      → Representable base (f s) → Encodes after (f s)
   changed f after e r = record { words = e ∙ ap (λ (x : Store). encode base (f x)) is-decoded; fits = r }

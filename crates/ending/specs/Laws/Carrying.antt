@@ -27,23 +27,31 @@ use Rattle.ending.specs.Laws.Books.{Encodes, held, is-packed, is-decoded
 abbrev pub entriesFrom : List ℕ → ℕ → List Logged
 entriesFrom w i = drop i (decode base w .log)
 
--- The book once the transaction's entries before i are carried into its rows: what is left to carry leads to what all of them do.
+-- The book once the transaction's entries before i are carried into its rows: what is left to carry leads to what all
+-- of them do.
 pub record Carrying (start : List ℕ) (t i : ℕ) (w : List ℕ) : Type 0 where
   pub packed : Packed base w
   pub count : word w 0 ≡ word start 0
   pub carriable : Carriable (entriesFrom w i) (decode base w)
   pub leads : carriedOut t (entriesFrom w i) (decode base w) ≡ carriedOut t (decode base start .log) (decode base start)
 
-pub carrying-begun : (w : List ℕ) (t : ℕ) → Packed base w → EntriesFit (decode base w) → Room base (decode base w) → Carrying w t 0 w
+pub carrying-begun : (w : List ℕ) (t : ℕ) → Packed base w → EntriesFit (decode base w) → Room base (decode base w)
+    → Carrying w t 0 w
 carrying-begun w t p fits room =
-    record { packed = p; count = refl; carriable = carriable (decode base w) (representable w p) fits room; leads = refl }
+    record {
+      packed = p;
+      count = refl;
+      carriable = carriable (decode base w) (representable w p) fits room;
+      leads = refl;
+    }
 
 pub carrying-ended : (start : List ℕ) (t i : ℕ) (w : List ℕ) → Carrying start t i w → word start 0 ≤ i
     → w ≡ encode base (carriedOut t (decode base start .log) (decode base start))
 carrying-ended start t i w c l =
     let nothing-left : entriesFrom w i ≡ [] =
     drop-past (word w 0) (entryAt w) i (omega (arith, c .count, l)) in
-    held w (c .packed) .words ∙ ap (encode base) (ap (λ (log : List Logged). carriedOut t log (decode base w)) (sym nothing-left) ∙ c .leads)
+    held w (c .packed) .words
+    ∙ ap (encode base) (ap (λ (log : List Logged). carriedOut t log (decode base w)) (sym nothing-left) ∙ c .leads)
 
 module _ (start : List ℕ) (t i : ℕ) (w : List ℕ) (c : Carrying start t i w) (l : i < word start 0) where
   below : i < word w 0
@@ -58,11 +66,15 @@ module _ (start : List ℕ) (t i : ℕ) (w : List ℕ) (c : Carrying start t i w
   abbrev number : ℕ
   number = word w (entryStart i)
 
+  -- The store with the entry folded into its object's rows.
+  abbrev with-entry : Store
+  with-entry = folded (entryAt w i .object) (operationAt w i) (decode base w)
+
   after-entry : (own : Bool) → eqb number t ≡ own
-      → carriedOut t (entriesFrom w (i + 1)) (cond own (folded (entryAt w i .object) (operationAt w i) (decode base w)) (decode base w))
+      → carriedOut t (entriesFrom w (i + 1)) (cond own with-entry (decode base w))
       ≡ carriedOut t (decode base start .log) (decode base start)
   after-entry own e =
-      ap (λ (b : Bool). carriedOut t (entriesFrom w (i + 1)) (cond b (folded (entryAt w i .object) (operationAt w i) (decode base w)) (decode base w))) (sym e)
+      ap (λ (b : Bool). carriedOut t (entriesFrom w (i + 1)) (cond b with-entry (decode base w))) (sym e)
       ∙ ap (λ (log : List Logged). carriedOut t log (decode base w)) (sym next-entry)
       ∙ c .leads
 
@@ -87,7 +99,9 @@ module _ (start : List ℕ) (t i : ℕ) (w : List ℕ) (c : Carrying start t i w
     foldable = (within, room)
       where
         within : object < 16
-        within = subst (λ (o : ℕ). o < 16) (sym e) (kind-below base w (entryAt w i .object) (model.kindOf (operationAt w i)) (left .fits .0))
+        within =
+            subst (λ (o : ℕ). o < 16) (sym e)
+            (kind-below base w (entryAt w i .object) (model.kindOf (operationAt w i)) (left .fits .0))
 
         room : length (nextOf operation (rowsAt w object)) ≤ 64
         room =
@@ -96,15 +110,17 @@ module _ (start : List ℕ) (t i : ℕ) (w : List ℕ) (c : Carrying start t i w
 
     -- and its own is folded into its object's rows.
     pub carrying-own : number ≡ t → (after : List ℕ)
-        → ((o : model.Operation) → operationOf operation ≡ some o → after ≡ encode base (folded object o (decode base w)))
+        → ((o : model.Operation) → operationOf operation ≡ some o
+        → after ≡ encode base (folded object o (decode base w)))
         → Carrying start t (i + 1) after
     carrying-own own after folds =
         let rest = entriesFrom w (i + 1) in
-        let s = folded (entryAt w i .object) (operationAt w i) (decode base w) in
+        let s = with-entry in
         let written : after ≡ encode base s =
         folds (operationAt w i) named ∙ ap (λ (o : ℕ). encode base (folded o (operationAt w i) (decode base w))) e in
         let next = taken (entryAt w i) rest (decode base w) left in
-        let h = changed w (decode base w) (held w (c .packed)) (folded (entryAt w i .object) (operationAt w i)) after written (next .representable) in
+        let fold = folded (entryAt w i .object) (operationAt w i) in
+        let h = changed w (decode base w) (held w (c .packed)) fold after written (next .representable) in
         let d = is-decoded after s h in
         record {
           packed = is-packed after s h;
@@ -121,8 +137,10 @@ module _ (w : List ℕ) (p : Packed base w) (t : ℕ) where
   abbrev all : Store
   all = carriedOut t (decode base w .log) (decode base w)
 
-  pub carried-held : EntriesFit (decode base w) → Room base (decode base w) → (after : List ℕ) → after ≡ encode base all → Encodes after all
-  carried-held fits room after e = record { words = e; fits = carried-representable (decode base w) t (representable w p) fits room }
+  pub carried-held : EntriesFit (decode base w) → Room base (decode base w) → (after : List ℕ) → after ≡ encode base all
+      → Encodes after all
+  carried-held fits room after e =
+      record { words = e; fits = carried-representable (decode base w) t (representable w p) fits room }
 
   pub then-ended : (before after : List ℕ) → Encodes before all → after ≡ encode base (ended t (decode base before))
       → after ≡ encode base (commit t (decode base w))

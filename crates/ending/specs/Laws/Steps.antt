@@ -18,26 +18,32 @@ module _ (w : List ℕ) (p : Packed base w) (t : ℕ) where
 
   module _ (removed : List ℕ) (e : removed ≡ encode base (dropped t (decode base w))) where
     pub without-entries : Encodes removed (dropped t (decode base w))
-    without-entries = let h = held w p in changed w (decode base w) h (dropped t) removed e (representable-dropped (decode base w) (h .fits) t)
+    without-entries =
+        let h = held w p in
+        changed w (decode base w) h (dropped t) removed e (representable-dropped (decode base w) (h .fits) t)
 
-    pub without-status : (after : List ℕ) → after ≡ encode base (withStatus t absent (decode base removed)) → Encodes after left
+    pub without-status : (after : List ℕ) → after ≡ encode base (withStatus t absent (decode base removed))
+        → Encodes after left
     without-status after f =
         let h = without-entries in
-        changed removed (dropped t (decode base w)) h (withStatus t absent) after f (representable-status (dropped t (decode base w)) (h .fits) t absent)
+        let s = dropped t (decode base w) in
+        changed removed s h (withStatus t absent) after f (representable-status s (h .fits) t absent)
 
   module _ (status : ℕ) (l : t < 64) (e : status ≡ word w (1 + t)) where
     status-is : statusOf (decode base w) t ≡ readStatus status
     status-is = status-by-word base w t status l e
 
     -- Ranks close up after one that had a rank,
-    pub ranked-ended : (before after : List ℕ) → Encodes before left → 2 ≤ status → after ≡ encode base (closedUp (status - 2) (decode base before))
+    pub ranked-ended : (before after : List ℕ) → Encodes before left → 2 ≤ status
+        → after ≡ encode base (closedUp (status - 2) (decode base before))
         → after ≡ encode base (ended t (decode base w))
     ranked-ended before after h ranked f =
         f ∙ ap (λ (s : Store). encode base (closedUp (status - 2) s)) (is-decoded before left h)
         ∙ ap (λ (x : Status). encode base (closedAfter x left)) (sym (status-is ∙ finished-read status ranked))
 
     -- and stay after another.
-    pub unranked-ended : (after : List ℕ) → Encodes after left → status < 2 → after ≡ encode base (ended t (decode base w))
+    pub unranked-ended : (after : List ℕ) → Encodes after left → status < 2
+        → after ≡ encode base (ended t (decode base w))
     unranked-ended after h unranked =
         h .words
         ∙ ap (encode base) (bit (λ x. left ≡ closedAfter (readStatus x) left) refl refl status unranked)

@@ -9,13 +9,16 @@ returns : tie.Need-returns
 returns c =
     let read = c .before .before in
     let start = read .before .before in
-    live-past (start .args .book .now) (start .args .i) _ (c .before .wide .ensures ∙ read .entry-transaction .ensures) (c .if1 .taken)
+    live-past (start .args .book .now) (start .args .i) _
+    (c .before .wide .ensures ∙ read .entry-transaction .ensures) (c .if1 .taken)
 
 returns-2 : tie.Need-returns-2
 returns-2 c =
     let read = c .before .before .before in
     let start = read .before .before in
-    live-tested (start .args .book .now) (start .args .i) (start .args .live) _ _ (read .entry-transaction .ensures) (start .pre .2) (c .contains .ensures)
+    live-tested (start .args .book .now) (start .args .i) (start .args .live) _ _
+    (read .entry-transaction .ensures) (start .pre .2) (c .contains .ensures)
 
 pub is-live-spec : {M : Type 1} → statement M
-is-live-spec = tie.close (tie.spec (λ c κs. search needs) (λ c κs. search needs) returns (λ c κs. search needs) returns-2)
+is-live-spec =
+    tie.close (tie.spec (λ c κs. search needs) (λ c κs. search needs) returns (λ c κs. search needs) returns-2)

@@ -1,36 +1,39 @@
--- `log::is_stored`: each arm asks for 0 where its operations use no argument. `2 | 3` and `4 | 5 | 6 | 8 | 9` come as tests of a range.
+-- `log::is_stored`: bit n of each mask says whether operation n leaves an argument unused.
+use Prim.Native.Nat.{_≤_}
 use mathlib.Core.Path.{refl}
 use mathlib.Core.Logic.{inl, inr, ⊎-elim}
-use Rattle.operations.specs.Laws.Cases.{yes, no}
-use Rattle.log.specs.Laws.Packing.{Bare, KeyAlone, stored-both, stored-below, stored-above, keyed-test, bare-test, bare-keyed}
+use native.Mathlib.Omega.{arith}
+use borrow.Author.Tests.{ltb-true, ltb-false}
+use Rattle.operations.specs.Laws.Cases.{no}
+use Rattle.log.specs.Laws.Packing.{masked-below, stored-tested, out-of-range}
 use Rattle.log.proofs.is_stored.Statement.{statement}
 use Rattle.log.proofs.is_stored.Tie as tie
 
 returns : tie.Need-returns
-returns c = yes refl (stored-both _ _ _ (c .match .keys3))
+returns c =
+    let operation = c .before .args .operation in
+    no refl
+    (out-of-range (operation .number) (operation .key) (operation .value)
+    (⊎-elim (λ w. inl (w .taken)) (λ w. inr (ltb-true 11 _ (w .1 .taken))) (c .if1 .came)))
+
+at-most-11 : (c : tie.Else2) → c .before .before .args .operation .number ≤ 11
+at-most-11 c = ltb-false 11 _ (c .if2 .left)
+
+shr-key : tie.Need-shr-key
+shr-key c = omega (arith, at-most-11 c)
+
+mul-key : tie.Need-mul-key
+mul-key c =
+    let operation = c .before .before .before .args .operation in
+    omega (arith, c .struct-known .given .1, masked-below 1_036 (operation .number) (operation .key))
+
+mul-value : tie.Need-mul-value
+mul-value c =
+    let operation = c .before .before .before .before .args .operation in
+    omega (arith, c .struct-known2 .given .1, masked-below 1_918 (operation .number) (operation .value))
 
 returns-2 : tie.Need-returns-2
-returns-2 c = no refl (stored-below _ _ _ (c .if1 .taken))
-
-returns-3 : tie.Need-returns-3
-returns-3 c =
-    let rest = c .before .before .before .match .rest in
-    no refl (stored-above _ _ _ (c .if3 .left) (rest .0 .1) (λ e. rest .1 (inr e)))
-
-is-bare : (c : tie.At-match-came) → Bare (c .before .args .operation .number)
-is-bare c = ⊎-elim (λ w. inl (w .keys2)) (λ w. inr (w .1 .left, w .2 .taken, w .0 .rest .0 .0 .1)) (c .match .came)
-
-is-keyed : (c : tie.At-match-came-2) → KeyAlone (c .before .args .operation .number)
-is-keyed c = ⊎-elim (λ w. inl (w .keys1)) (λ w. inr (w .2 .left, w .3 .taken, λ e. w .0 .rest .1 (inl e))) (c .match .came)
-
-returns-4 : tie.Need-returns-4
-returns-4 c = bare-test _ _ _ (is-bare (c .before .before .before)) (c .before .if4 .taken)
-
-returns-5 : tie.Need-returns-5
-returns-5 c = bare-keyed _ _ _ (is-bare (c .before .before)) (c .if4 .left)
-
-returns-6 : tie.Need-returns-6
-returns-6 c = keyed-test _ _ _ (is-keyed (c .before))
+returns-2 c = stored-tested _ _ _ (c .before .before .before .if1 .left) (at-most-11 (c .before .before))
 
 pub is-stored-spec : {M : Type 1} → statement M
-is-stored-spec = tie.close (tie.spec returns returns-2 returns-3 returns-4 returns-5 returns-6)
+is-stored-spec = tie.close (tie.spec returns shr-key mul-key (λ c. shr-key (c .before)) mul-value returns-2)

@@ -9,15 +9,18 @@ returns : tie.Need-returns
 returns c =
     let wide = c .before in
     let start = wide .before .before .before in
-    kind-past (start .args .book .now) (start .args .i) _ (wide .wide .ensures ∙ wide .before .entry-object .ensures) (c .if1 .taken)
+    kind-past (start .args .book .now) (start .args .i) _
+    (wide .wide .ensures ∙ wide .before .entry-object .ensures) (c .if1 .taken)
 
 returns-2 : tie.Need-returns-2
 returns-2 c =
     let operation = c .before .before in
     let wide = operation .before .before in
     let start = wide .before .before .before in
-    kind-tested (start .args .book .now) (start .args .i) (start .pre .0) (start .pre .1) _ _ (operation .entry-operation .ensures .0) (c .kind-of .ensures)
-    _ _ (wide .wide .ensures ∙ wide .before .entry-object .ensures) (operation .before .if1 .left) (c .before .object-kind .ensures)
+    kind-tested (start .args .book .now) (start .args .i) (start .pre .2)
+    _ _ (operation .entry-operation .ensures .0) (c .kind-of .ensures)
+    _ _ (wide .wide .ensures ∙ wide .before .entry-object .ensures)
+    (operation .before .if1 .left) (c .before .object-kind .ensures)
 
 pub of-kind-spec : {M : Type 1} → statement M
 of-kind-spec =

@@ -10,15 +10,17 @@ use borrow.Author.Tests.{eqb-true, eq-eqb, ltb-true, lt-ltb, le-ltb}
 use lib.Dec.{eqb, ltb}
 use Rattle.operations.specs.Laws.Cases.{yes, no}
 use Rattle.bitset.specs.Bitset.{has, Holds}
-use Rattle.operations.specs.Operations.{Kind, push, pop, top, setInsert, setDelete, member, tableInsert, tableDelete, lookup, size, modify, Operation, onStack, onSet, onTable, kindOf, numberOf, keyOf, reduceKey, StoredKey}
+use Rattle.operations.specs.Operations.{Kind, Operation, onStack, onSet, onTable, push, pop, top, setInsert, setDelete}
+use Rattle.operations.specs.Operations.{member, tableInsert, tableDelete, lookup, size, modify}
+use Rattle.operations.specs.Operations.{kindOf, numberOf, keyOf, reduceKey, StoredKey}
 use Rattle.operations.specs.Laws.Storing.{reduced-below}
 use Rattle.store.specs.Store.{Object, Live, objectOf, Logged}
-use Rattle.store.specs.Layout.{base, decode, word, kindWord, readKind, objectStart, entryStart, entryAt, operationAt, Packed}
-use Rattle.store.specs.Soundness.{EntriesLive, EntriesFit, KeysReduced}
+use Rattle.store.specs.Layout.{base, decode, word, kindWord, readKind, objectStart}
+use Rattle.store.specs.Layout.{entryStart, entryAt, operationAt, AsStored}
 use Rattle.store.specs.Laws.Lists.{all-each, all-of}
 use Rattle.store.specs.Laws.Objects.{kind-read}
 use Rattle.store.specs.Laws.Reading.{live-below, object-read, kind-below}
-use Rattle.log.specs.Log.{kindBy, EntryFits}
+use Rattle.log.specs.Log.{kindBy, EntryLive, EntryOfKind, KeyReduced, EntryFits, LogFits}
 use Rattle.log.specs.Laws.Checks.{Each}
 
 -- ---- Kinds
@@ -52,7 +54,8 @@ kind-written (suc (suc zero)) k e = ap kindWord e
 kind-written (suc (suc (suc zero))) k e = ap kindWord e
 kind-written (suc (suc (suc (suc n)))) k e = absurd (Option·none-ne-some k e)
 
-object-kind : (w : List ℕ) (o : ℕ) (k : Kind) → ((o < 16) × (word w (objectStart o) ≡ kindWord (some k))) ↔ (objectOf (decode base w) o .kind ≡ some k)
+object-kind : (w : List ℕ) (o : ℕ) (k : Kind)
+    → ((o < 16) × (word w (objectStart o) ≡ kindWord (some k))) ↔ (objectOf (decode base w) o .kind ≡ some k)
 object-kind w o k = (
   λ p. ap (λ (x : Object). x .kind) (object-read base w o (p .0)) ∙ ap readKind (p .1) ∙ kind-read (some k),
   λ e.
@@ -64,65 +67,70 @@ object-kind w o k = (
 
 stored-key : (o : Operation) → ((kindWord (some (kindOf o)) ≡ 1) ⊎ (keyOf o < 16_777_216)) ↔ StoredKey reduceKey o
 stored-key (onStack o) = (λ p. tt, λ s. inl refl)
-stored-key (onSet o) = (⊎-elim (λ e. absurd (omega arith)) (λ l. reduced-below _ .0 l), λ s. inr (reduced-below _ .1 s))
-stored-key (onTable o) = (⊎-elim (λ e. absurd (omega arith)) (λ l. reduced-below _ .0 l), λ s. inr (reduced-below _ .1 s))
+stored-key (onSet o) =
+    (⊎-elim (λ e. absurd (omega arith)) (λ l. reduced-below _ .0 l), λ s. inr (reduced-below _ .1 s))
+stored-key (onTable o) =
+    (⊎-elim (λ e. absurd (omega arith)) (λ l. reduced-below _ .0 l), λ s. inr (reduced-below _ .1 s))
 
 -- ---- One entry
 
 module _ (w : List ℕ) (i : ℕ) where
-  abbrev EntryLive : Type 0
-  EntryLive = Live (decode base w) (word w (entryStart i))
-
-  abbrev OfKind : Type 0
-  OfKind = objectOf (decode base w) (word w (entryStart i + 1)) .kind ≡ some (kindOf (operationAt w i))
-
-  abbrev KeyReduced : Type 0
-  KeyReduced = StoredKey reduceKey (operationAt w i)
-
-  pub live-past : (t : ℕ) → t ≡ word w (entryStart i) → 64 ≤ t → (false ≡ true) ↔ EntryLive
+  pub live-past : (t : ℕ) → t ≡ word w (entryStart i) → 64 ≤ t → (false ≡ true) ↔ EntryLive w i
   live-past t e l = no refl (λ live. omega (arith, live-below base w (word w (entryStart i)) live))
 
-  pub live-tested : (live t : ℕ) (b : Bool) → t ≡ word w (entryStart i) → Holds live (Live (decode base w)) → b ≡ has live t
-      → (b ≡ true) ↔ EntryLive
+  pub live-tested : (live t : ℕ) (b : Bool) → t ≡ word w (entryStart i) → Holds live (Live (decode base w))
+      → b ≡ has live t → (b ≡ true) ↔ EntryLive w i
   live-tested live t b e lives r = rw (r, ← e) (lives t)
 
-  pub kind-past : (o : ℕ) → o ≡ word w (entryStart i + 1) → 16 ≤ o → (false ≡ true) ↔ OfKind
-  kind-past o e l = no refl (λ k. omega (arith, kind-below base w (word w (entryStart i + 1)) (kindOf (operationAt w i)) k))
+  pub kind-past : (o : ℕ) → o ≡ word w (entryStart i + 1) → 16 ≤ o → (false ≡ true) ↔ EntryOfKind w i
+  kind-past o e l =
+      no refl (λ k. omega (arith, kind-below base w (word w (entryStart i + 1)) (kindOf (operationAt w i)) k))
 
-  module _ (packed : Packed base w) (l : i < word w 0) (n kind : ℕ) (number : n ≡ word w (entryStart i + 2)) (by : kind ≡ kindBy n) where
+  module _ (stored : AsStored w i) (n kind : ℕ) (number : n ≡ word w (entryStart i + 2)) (by : kind ≡ kindBy n) where
     kind-stored : kind ≡ kindWord (some (kindOf (operationAt w i)))
-    kind-stored = by ∙ ap kindBy (number ∙ sym (packed .log .asStored i l .0)) ∙ kind-by (operationAt w i)
+    kind-stored = by ∙ ap kindBy (number ∙ sym (stored .0)) ∙ kind-by (operationAt w i)
 
-    pub kind-tested : (o x : ℕ) → o ≡ word w (entryStart i + 1) → o < 16 → x ≡ word w (objectStart o) → (eqb x kind ≡ true) ↔ OfKind
+    pub kind-tested : (o x : ℕ) → o ≡ word w (entryStart i + 1) → o < 16 → x ≡ word w (objectStart o)
+        → (eqb x kind ≡ true) ↔ EntryOfKind w i
     kind-tested o x e m r =
         let h = object-kind w o (kindOf (operationAt w i)) in
-        rw (← e) (λ q. h .0 (m, sym r ∙ eqb-true x kind q ∙ kind-stored), λ p. eq-eqb x kind (r ∙ h .1 p .1 ∙ sym kind-stored))
+        rw (← e)
+        (λ q. h .0 (m, sym r ∙ eqb-true x kind q ∙ kind-stored), λ p. eq-eqb x kind (r ∙ h .1 p .1 ∙ sym kind-stored))
 
-    pub no-key : kind ≡ 1 → (eqb kind 1 ≡ true) ↔ KeyReduced
+    pub no-key : kind ≡ 1 → (eqb kind 1 ≡ true) ↔ KeyReduced w i
     no-key e = yes (eq-eqb kind 1 e) (stored-key (operationAt w i) .0 (inl (sym kind-stored ∙ e)))
 
-    pub key-tested : (k : ℕ) → k ≡ word w (entryStart i + 3) → (kind ≡ 1 → ⊥) → (ltb k 16_777_216 ≡ true) ↔ KeyReduced
+    pub key-tested : (k : ℕ) → k ≡ word w (entryStart i + 3) → (kind ≡ 1 → ⊥)
+        → (ltb k 16_777_216 ≡ true) ↔ KeyReduced w i
     key-tested k e other =
         let o = operationAt w i in
-        let same : k ≡ keyOf o = e ∙ sym (packed .log .asStored i l .1) in (
+        let same : k ≡ keyOf o = e ∙ sym (stored .1) in (
           λ q. stored-key o .0 (inr (rw same at (ltb-true k 16_777_216 q))),
-          λ s. ⊎-elim (λ q. absurd (other (kind-stored ∙ q))) (λ m. lt-ltb k 16_777_216 (rw same m)) (stored-key o .1 s),
+          λ s.
+              ⊎-elim (λ q. absurd (other (kind-stored ∙ q))) (λ m. lt-ltb k 16_777_216 (rw same m))
+              (stored-key o .1 s),
         )
 
 -- ---- All entries
 
-pub each-fits : (w : List ℕ) (n : ℕ) → n ≡ word w 0
-    → Each (EntryFits w) n ↔ (EntriesLive (decode base w) × EntriesFit (decode base w) × KeysReduced base (decode base w))
+pub each-fits : (w : List ℕ) (n : ℕ) → n ≡ word w 0 → Each (EntryFits w) n ↔ LogFits w
 each-fits w n counted =
     let s = decode base w in
     let Alive : Logged → Type 0 = λ (l : Logged). Live s (l .entry .transaction) in
     let Kinded : Logged → Type 0 = λ (l : Logged). objectOf s (l .object) .kind ≡ some (kindOf (l .entry .operation)) in
     let Keyed : Logged → Type 0 = λ (l : Logged). StoredKey reduceKey (l .entry .operation) in
-    rw (← counted) (
-      λ each. (
-        all-of Alive n (entryAt w) (λ i l. each i l .0),
-        all-of Kinded n (entryAt w) (λ i l. each i l .1),
-        all-of Keyed n (entryAt w) (λ i l. each i l .2),
+    rw counted (
+      λ each.
+          record {
+            asStored = λ i l. each i l .0;
+            live = all-of Alive (word w 0) (entryAt w) (λ i l. each i l .1);
+            fits = all-of Kinded (word w 0) (entryAt w) (λ i l. each i l .2);
+            reduced = all-of Keyed (word w 0) (entryAt w) (λ i l. each i l .3);
+          },
+      λ p i l. (
+        p .asStored i l,
+        all-each Alive (word w 0) (entryAt w) (p .live) i l,
+        all-each Kinded (word w 0) (entryAt w) (p .fits) i l,
+        all-each Keyed (word w 0) (entryAt w) (p .reduced) i l,
       ),
-      λ p i l. (all-each Alive n (entryAt w) (p .0) i l, all-each Kinded n (entryAt w) (p .1) i l, all-each Keyed n (entryAt w) (p .2) i l),
     )

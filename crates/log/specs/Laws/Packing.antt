@@ -1,84 +1,91 @@
 -- What is stored for an operation, by its number; and ranges and zeros of the whole log.
-use Prim.Native.Nat.{ℕ, _+_, _-_, _≤_, _<_}
-use mathlib.Core.Path.{_≡_, refl, sym, ap, subst, _∙_}
+use Prim.Native.Nat.{ℕ, zero, suc, _+_, _-_, _*_, _/_, _^_, _≤_, _<_}
+use mathlib.Core.Path.{_≡_, refl, sym, ap, ap₂, subst, _∙_}
 use mathlib.Core.Bool.{Bool, true, false}
-use mathlib.Core.Logic.{_↔_, _⊎_, inl, inr}
+use mathlib.Core.Logic.{_↔_, _⊎_, inl, inr, Iff·trans}
 use mathlib.Core.Option.{none, some}
 use mathlib.Core.List.{List, _∷_, map}
 use native.Mathlib.Omega.{arith}
 use borrow.Rule.Slice.PartAt.{part-to-end}
 use borrow.Author.Tests.{eqb-true, eq-eqb}
+use lib.Bits.{bitAnd, bitOr, and-le-r, or-self}
 use lib.Dec.{eqb}
 use lib.ListN.{length, take, drop, List·getD-eq-default}
 use lib.Seq.{getD-drop}
 use Rattle.operations.specs.Operations.{numbered, stored, numberOf}
-use Rattle.operations.specs.Laws.Cases.{same, no, denied}
-use Rattle.store.specs.Layout.{word, orPop, entryStart, AsStored, LogPacked}
-use Rattle.log.specs.Log.{StoredWords}
-use Rattle.log.specs.Laws.Checks.{Each}
+use Rattle.operations.specs.Laws.Cases.{same, no}
+use Rattle.store.specs.Layout.{base, word, orPop, entryStart, ObjectPacked, AsStored, Packed}
+use Rattle.layout.specs.Laws.{or-zero}
+use Rattle.log.specs.Log.{StoredWords, LogBounded}
 
 -- ---- One operation
 
--- The numbers of operations that use neither argument, as the code's match tells them; and of those that use the key alone.
-abbrev pub Bare : ℕ → Type 0
-Bare n = (n ≡ 10) ⊎ ((1 ≤ n) × (n < 4) × (n ≡ 1 → ⊥))
+-- An argument x of operation n where the mask has bit n, else 0.
+abbrev pub masked : ℕ → ℕ → ℕ → ℕ
+masked mask n x = bitAnd (mask / 2 ^ n) 1 * x
 
-abbrev pub KeyAlone : ℕ → Type 0
-KeyAlone n = (n ≡ 1) ⊎ ((4 ≤ n) × (n < 10) × (n ≡ 7 → ⊥))
+at-most : (b x : ℕ) → b ≤ 1 → b * x ≤ x
+at-most zero x l = omega arith
+at-most (suc zero) x l = omega arith
+at-most (suc (suc b)) x l = absurd (omega arith)
 
-zero-test : {P : Type 0} (x : ℕ) → (x ≡ 0) ↔ P → (eqb x 0 ≡ true) ↔ P
-zero-test x p = (λ e. p .0 (eqb-true x 0 e), λ q. eq-eqb x 0 (p .1 q))
+pub masked-below : (mask n x : ℕ) → masked mask n x ≤ x
+masked-below mask n x = at-most (bitAnd (mask / 2 ^ n) 1) x (and-le-r (mask / 2 ^ n) 1)
+
+or-tested : (a b : ℕ) → (eqb (bitOr a b) 0 ≡ true) ↔ ((a ≡ 0) × (b ≡ 0))
+or-tested a b = (
+  λ q. or-zero a b (eqb-true (bitOr a b) 0 q),
+  λ z. eq-eqb (bitOr a b) 0 (ap₂ bitOr (z .0) (z .1) ∙ or-self 0),
+)
 
 module _ (n k v : ℕ) where
-  at : (P : Type 0) (m : ℕ) → n ≡ m → P ↔ StoredWords m k v → P ↔ StoredWords n k v
-  at P m e h = subst (λ (j : ℕ). P ↔ StoredWords j k v) (sym e) h
+  -- The arguments that operation n does not use are 0, by the masks of the code.
+  abbrev Unused : ℕ → Type 0
+  Unused m = (masked 1_036 m k ≡ 0) × (masked 1_918 m v ≡ 0)
 
-  -- Without arguments and with a key alone: what is kept, as it computes at a number m.
-  bare : (m : ℕ) → ((k ≡ 0) × (v ≡ 0)) ↔ ((m ≡ m) × (0 ≡ k) × (0 ≡ v))
-  bare m = (λ z. (refl, sym (z .0), sym (z .1)), λ h. (sym (h .1), sym (h .2)))
+  -- With neither argument, with a key alone and with both: what is kept, as it computes at a number m.
+  bare : (m : ℕ) → ((1 * k ≡ 0) × (1 * v ≡ 0)) ↔ ((m ≡ m) × (0 ≡ k) × (0 ≡ v))
+  bare m = (λ z. (refl, omega (arith, z .0), omega (arith, z .1)), λ h. (omega (arith, h .1), omega (arith, h .2)))
 
-  keyed : (m : ℕ) → (v ≡ 0) ↔ ((m ≡ m) × (k ≡ k) × (0 ≡ v))
-  keyed m = (λ z. (refl, refl, sym z), λ h. sym (h .2))
+  keyed : (m : ℕ) → ((0 * k ≡ 0) × (1 * v ≡ 0)) ↔ ((m ≡ m) × (k ≡ k) × (0 ≡ v))
+  keyed m = (λ z. (refl, refl, omega (arith, z .1)), λ h. (omega arith, omega (arith, h .2)))
 
-  stored-bare : Bare n → ((k ≡ 0) × (v ≡ 0)) ↔ StoredWords n k v
-  stored-bare (inl e) = at _ 10 e (bare 10)
-  stored-bare (inr (l, m, n1)) = same n 2 (λ e. at _ 2 e (bare 2)) (λ n2. at _ 3 (omega arith) (bare 3))
+  both : (m : ℕ) → ((0 * k ≡ 0) × (0 * v ≡ 0)) ↔ ((m ≡ m) × (k ≡ k) × (v ≡ v))
+  both m = (λ z. (refl, refl, refl), λ h. (omega arith, omega arith))
 
-  stored-keyed : KeyAlone n → (v ≡ 0) ↔ StoredWords n k v
-  stored-keyed (inl e) = at _ 1 e (keyed 1)
-  stored-keyed (inr (l, m, n7)) =
-      same n 4 (λ e. at _ 4 e (keyed 4))
-      (λ n4. same n 5 (λ e. at _ 5 e (keyed 5))
-      (λ n5. same n 6 (λ e. at _ 6 e (keyed 6))
-      (λ n6. same n 8 (λ e. at _ 8 e (keyed 8))
-      (λ n8. at _ 9 (omega arith) (keyed 9)))))
+  at : (m : ℕ) → Unused m ↔ StoredWords m k v → n ≡ m → Unused n ↔ StoredWords n k v
+  at m h e = subst (λ (j : ℕ). Unused j ↔ StoredWords j k v) (sym e) h
 
-  pub stored-both : (n ≡ 7) ⊎ (n ≡ 11) → StoredWords n k v
-  stored-both (inl e) = subst (λ (j : ℕ). StoredWords j k v) (sym e) (refl, refl, refl)
-  stored-both (inr e) = subst (λ (j : ℕ). StoredWords j k v) (sym e) (refl, refl, refl)
+  -- n is m, or above it.
+  or-above : {A : Type 0} (m : ℕ) → (n ≡ m → A) → (m < n → A) → m ≤ n → A
+  or-above m equal above l = same n m equal (λ other. above (omega arith))
+
+  unused-stored : (n ≡ 0 → ⊥) → n ≤ 11 → Unused n ↔ StoredWords n k v
+  unused-stored n0 l =
+      or-above 1 (at 1 (keyed 1))
+      (or-above 2 (at 2 (bare 2))
+      (or-above 3 (at 3 (bare 3))
+      (or-above 4 (at 4 (keyed 4))
+      (or-above 5 (at 5 (keyed 5))
+      (or-above 6 (at 6 (keyed 6))
+      (or-above 7 (at 7 (both 7))
+      (or-above 8 (at 8 (keyed 8))
+      (or-above 9 (at 9 (keyed 9))
+      (or-above 10 (at 10 (bare 10)) (λ past. at 11 (both 11) (omega arith))))))))))) (omega arith)
+
+  -- As the code's test tells it.
+  pub stored-tested : (n ≡ 0 → ⊥) → n ≤ 11
+      → (eqb (bitOr (masked 1_036 n k) (masked 1_918 n v)) 0 ≡ true) ↔ StoredWords n k v
+  stored-tested n0 l = Iff·trans (or-tested (masked 1_036 n k) (masked 1_918 n v)) (unused-stored n0 l)
 
   unnamed : stored (λ k. k) n k v ≡ none → (n ≡ 2 → ⊥) → StoredWords n k v → ⊥
   unnamed e other h = other (sym (h .0) ∙ ap (λ q. numberOf (orPop q)) e)
 
-  pub stored-below : n < 1 → StoredWords n k v → ⊥
-  stored-below l =
-      let e : n ≡ 0 = omega arith in
-      unnamed (ap (λ m. stored (λ k. k) m k v) e) (λ two. omega arith)
-
-  pub stored-above : 10 ≤ n → (n ≡ 10 → ⊥) → (n ≡ 11 → ⊥) → StoredWords n k v → ⊥
-  stored-above l n10 n11 =
-      let past : 12 ≤ n = omega arith in
-      unnamed (List·getD-eq-default (none ∷ map some (numbered (λ k. k) k v)) none past) (λ two. omega arith)
-
-  -- As the code's tests tell it.
-  pub keyed-test : KeyAlone n → (eqb v 0 ≡ true) ↔ StoredWords n k v
-  keyed-test u = zero-test v (stored-keyed u)
-
-  pub bare-test : Bare n → k ≡ 0 → (eqb v 0 ≡ true) ↔ StoredWords n k v
-  bare-test u e = zero-test v (λ z. stored-bare u .0 (e, z), λ h. stored-bare u .1 h .1)
-
-  pub bare-keyed : Bare n → (k ≡ 0 → ⊥) → (eqb k 0 ≡ true) ↔ StoredWords n k v
-  bare-keyed u other = zero-test k (λ z. absurd (other z), λ h. stored-bare u .1 h .0)
+  -- No operation has the number 0, or one above 11.
+  pub out-of-range : (n ≡ 0) ⊎ (11 < n) → StoredWords n k v → ⊥
+  out-of-range (inl e) = unnamed (ap (λ m. stored (λ k. k) m k v) e) (λ two. omega arith)
+  out-of-range (inr l) =
+      unnamed (List·getD-eq-default (none ∷ map some (numbered (λ k. k) k v)) none l) (λ two. omega arith)
 
 -- An operation that was read from the words of entry i.
 pub stored-read : (B : Type 0) (w : List ℕ) (i n k v : ℕ) → B ↔ StoredWords n k v
@@ -89,11 +96,8 @@ stored-read B w i n k v h (en, ek, ev) = rw (en, ek, ev) at h
 -- ---- The whole log
 
 module _ (w : List ℕ) (n : ℕ) (counted : n ≡ word w 0) where
-  pub too-many : 256 < n → (false ≡ true) ↔ LogPacked w
+  pub too-many : 256 < n → (false ≡ true) ↔ LogBounded w
   too-many l = no refl (λ p. omega (arith, p .entries))
-
-  pub not-stored : (b : Bool) → b ≡ false → (b ≡ true) ↔ Each (AsStored w) n → (false ≡ true) ↔ LogPacked w
-  not-stored b e h = no refl (λ p. denied h e (rw counted (p .asStored)))
 
   -- The words from place a on, as a part of w that is lent.
   abbrev pub from : ℕ → List ℕ
@@ -107,8 +111,23 @@ module _ (w : List ℕ) (n : ℕ) (counted : n ≡ word w 0) where
       let e : entryStart n + (i - entryStart n) ≡ i = omega arith in
       ap (word w) (sym e) ∙ sym (from-at (entryStart n) (i - entryStart n)) ∙ zeros (i - entryStart n)
 
-  pub then-zeros : (b : Bool) → n ≤ 256 → Each (AsStored w) n → (b ≡ true) ↔ ((i : ℕ) → word (from (entryStart n)) i ≡ 0) → (b ≡ true) ↔ LogPacked w
-  then-zeros b l stored zeros = (
-    λ e. record { entries = rw counted at l; asStored = rw counted at stored; unused = λ i m. unused (zeros .0 e) i (omega arith) },
+  pub then-zeros : (b : Bool) → n ≤ 256 → (b ≡ true) ↔ ((i : ℕ) → word (from (entryStart n)) i ≡ 0)
+      → (b ≡ true) ↔ LogBounded w
+  then-zeros b l zeros = (
+    λ e. record { entries = rw counted at l; unused = λ i m. unused (zeros .0 e) i (omega arith) },
     λ p. zeros .1 (λ i. from-at (entryStart n) i ∙ p .unused (entryStart n + i) (omega arith)),
   )
+
+-- Packed is: of that length, the objects packed, the log bounded and each of its entries as stored.
+module _ (w : List ℕ) where
+  pub packed-bounded : Packed base w → LogBounded w
+  packed-bounded p = record { entries = p .log .entries; unused = p .log .unused }
+
+  pub bounded-packed : length w ≡ 3_937 → ((o : ℕ) → o < 16 → ObjectPacked w o) → LogBounded w
+      → ((i : ℕ) → i < word w 0 → AsStored w i) → Packed base w
+  bounded-packed size objects bounded stored =
+      record {
+        words = size;
+        objects = objects;
+        log = record { entries = bounded .entries; asStored = stored; unused = bounded .unused };
+      }

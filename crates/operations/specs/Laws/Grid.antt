@@ -11,11 +11,11 @@ use Rattle.operations.specs.Laws.Cases.{by-key}
 
 -- ---- A test of every number below a bound
 
-abbrev below : ℕ → (ℕ → Bool) → Bool
+abbrev pub below : ℕ → (ℕ → Bool) → Bool
 below zero f = true
 below (suc n) f = f n && below n f
 
-below-at : (n : ℕ) (f : ℕ → Bool) → below n f ≡ true → (i : ℕ) → i < n → f i ≡ true
+pub below-at : (n : ℕ) (f : ℕ → Bool) → below n f ≡ true → (i : ℕ) → i < n → f i ≡ true
 below-at zero f e i h = absurd (omega arith)
 below-at (suc n) f e i h =
     let both : (f n ≡ true) × (below n f ≡ true) = and-eq-true-iff (f n) (below n f) .0 e in

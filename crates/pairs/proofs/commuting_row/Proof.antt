@@ -9,7 +9,9 @@ stack : tie.Need-returns
 stack c = stack-row commutingRules _ (c .filled .result) (c .before .before .if1 .taken) (c .filled .ensures)
 
 set : tie.Need-returns-2
-set c = set-row commutingRules _ (c .filled2 .result) (c .before .before .before .if1 .left) (c .before .before .if2 .taken) (c .filled2 .ensures)
+set c =
+    set-row commutingRules _ (c .filled2 .result) (c .before .before .before .if1 .left)
+    (c .before .before .if2 .taken) (c .filled2 .ensures)
 
 table : tie.Need-returns-3
 table c = table-row commutingRules _ (c .before .if2 .left)

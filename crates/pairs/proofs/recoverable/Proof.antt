@@ -6,13 +6,21 @@ use Rattle.pairs.proofs.recoverable.Statement.{statement}
 use Rattle.pairs.proofs.recoverable.Tie as tie
 
 stack : tie.Need-stack-recoverable-requires
-stack c κs = let start = c .before in within (start .args .requested) (start .args .logged) (start .pre) .0 (c .if1 .taken)
+stack c κs =
+    let start = c .before in
+    within (start .args .requested) (start .args .logged) (start .pre) .0 (c .if1 .taken)
 
 set : tie.Need-set-recoverable-requires
-set c κs = let start = c .before .before in within (start .args .requested) (start .args .logged) (start .pre) .1 (c .before .if1 .left) (c .if2 .taken)
+set c κs =
+    let start = c .before .before in
+    within (start .args .requested) (start .args .logged) (start .pre) .1
+    (c .before .if1 .left) (c .if2 .taken)
 
 table : tie.Need-table-recoverable-requires
-table c κs = let start = c .before .before in within (start .args .requested) (start .args .logged) (start .pre) .2 (c .if2 .left)
+table c κs =
+    let start = c .before .before in
+    within (start .args .requested) (start .args .logged) (start .pre) .2
+    (c .if2 .left)
 
 pub recoverable-spec : {M : Type 1} → statement M
 recoverable-spec =
@@ -20,10 +28,13 @@ recoverable-spec =
     (tie.spec
     stack
     (λ c κs. tt)
-    (λ c. decided recoverableRules recoverableKeyed Stack _ _ (stack (c .before .before) _) (c .before .stack-recoverable .ensures) (c .allowed .ensures))
+    (λ c. decided recoverableRules recoverableKeyed Stack _ _ (stack (c .before .before) _)
+    (c .before .stack-recoverable .ensures) (c .allowed .ensures))
     set
     (λ c κs. tt)
-    (λ c. decided recoverableRules recoverableKeyed Set _ _ (set (c .before .before) _) (c .before .set-recoverable .ensures) (c .allowed2 .ensures))
+    (λ c. decided recoverableRules recoverableKeyed Set _ _ (set (c .before .before) _)
+    (c .before .set-recoverable .ensures) (c .allowed2 .ensures))
     table
     (λ c κs. tt)
-    (λ c. decided recoverableRules recoverableKeyed Table _ _ (table (c .before .before) _) (c .before .table-recoverable .ensures) (c .allowed3 .ensures)))
+    (λ c. decided recoverableRules recoverableKeyed Table _ _ (table (c .before .before) _)
+    (c .before .table-recoverable .ensures) (c .allowed3 .ensures)))

@@ -19,7 +19,8 @@ refused c =
 
 is-accepted : (c : tie.Else1) → BeginAccepted base (start c .args .book .now) (start c .args .transaction)
 is-accepted c =
-    begin-accepted base whetherSound (start c .args .book .now) (start c .args .transaction) (sym (c .before .begin .ensures) ∙ c .if1 .left)
+    begin-accepted base whetherSound (start c .args .book .now) (start c .args .transaction)
+    (sym (c .before .begin .ensures) ∙ c .if1 .left)
 
 set-status-requires : tie.Need-set-status-requires
 set-status-requires c κs = let a = is-accepted (c .before) in (a .sound .packed, a .below)
@@ -27,8 +28,10 @@ set-status-requires c κs = let a = is-accepted (c .before) in (a .sound .packed
 done : tie.Need-returns-2
 done c =
     let past = c .before .before .before .before in
-    begin-done (start past .args .book .now) (start past .args .transaction) _ (past .before .begin .ensures) (past .if1 .left)
+    begin-done (start past .args .book .now) (start past .args .transaction) _ (past .before .begin .ensures)
+    (past .if1 .left)
     _ (c .before .before .set-status .ensures)
 
 pub begin-spec : {M : Type 1} → statement M
-begin-spec = tie.close (tie.spec (λ c κs. search needs) (λ c. search needs) refused set-status-requires (λ c. search needs) done)
+begin-spec =
+    tie.close (tie.spec (λ c κs. search needs) (λ c. search needs) refused set-status-requires (λ c. search needs) done)

@@ -22,12 +22,14 @@ refused : tie.Need-returns
 refused c =
     let at = c .before in
     ap (λ (s : Served). s .outcome .rows)
-    (contents-refused (at .before .before .before .args .book .now) (at .before .before .before .args .object) _ (at .before .contents .ensures)
+    (contents-refused (at .before .before .before .args .book .now) (at .before .before .before .args .object) _
+    (at .before .contents .ensures)
     (at .if1 .taken))
 
 is-accepted : (c : tie.Else1) → ContentsAccepted base (start c .args .book .now) (start c .args .object)
 is-accepted c =
-    contents-accepted base whetherSound (start c .args .book .now) (start c .args .object) (sym (c .before .contents .ensures) ∙ c .if1 .left)
+    contents-accepted base whetherSound (start c .args .book .now) (start c .args .object)
+    (sym (c .before .contents .ensures) ∙ c .if1 .left)
 
 within : (c : tie.After-wide) → c .wide .result < 16
 within c = let a = is-accepted (c .before) in
@@ -41,7 +43,8 @@ few : (c : tie.After-row-count) → c .row-count .result ≤ 64
 few c =
     let past = c .before .before in
     subst (λ (n : ℕ). n ≤ 64) (sym (c .row-count .ensures))
-    (rows-few (start past .args .book .now) (c .before .wide .result) (within (c .before)) (is-accepted past .sound .packed))
+    (rows-few (start past .args .book .now) (c .before .wide .result) (within (c .before))
+    (is-accepted past .sound .packed))
 
 mul-end : tie.Need-mul-end
 mul-end c = omega (arith, few c)
@@ -59,9 +62,11 @@ rows c =
     let w = start past .args .book .now in
     let at = counted .before .wide .result in
     let here : at ≡ start past .args .object = counted .before .wide .ensures in
-    rows-part w at (within (counted .before)) (is-accepted past .sound .packed) (counted .row-count .result) (counted .row-count .ensures)
+    rows-part w at (within (counted .before)) (is-accepted past .sound .packed) (counted .row-count .result)
+    (counted .row-count .ensures)
     ∙ ap (λ (o : ℕ). joined rowWords (objectOf (decode base w) o .rows)) here
-    ∙ ap (λ (s : Served). s .outcome .rows) (contents-served w (start past .args .object) _ (past .before .contents .ensures) (past .if1 .left))
+    ∙ ap (λ (s : Served). s .outcome .rows)
+    (contents-served w (start past .args .object) _ (past .before .contents .ensures) (past .if1 .left))
 
 pub contents-spec : {M : Type 1} → statement M
 contents-spec =

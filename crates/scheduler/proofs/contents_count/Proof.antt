@@ -25,10 +25,13 @@ refused c =
 
 is-accepted : (c : tie.Else1) → ContentsAccepted base (start c .args .book .now) (start c .args .object)
 is-accepted c =
-    contents-accepted base whetherSound (start c .args .book .now) (start c .args .object) (sym (c .before .contents .ensures) ∙ c .if1 .left)
+    contents-accepted base whetherSound (start c .args .book .now) (start c .args .object)
+    (sym (c .before .contents .ensures) ∙ c .if1 .left)
 
 within : (c : tie.Else1) → start c .args .object < 16
-within c = let a = is-accepted c in kind-below base (start c .args .book .now) (start c .args .object) (a .kind .0) (a .kind .1)
+within c =
+    let a = is-accepted c in
+    kind-below base (start c .args .book .now) (start c .args .object) (a .kind .0) (a .kind .1)
 
 row-count-requires : tie.Need-row-count-requires
 row-count-requires c κs =
@@ -36,12 +39,19 @@ row-count-requires c κs =
 
 rows : (c : tie.After-row-count) → let past = c .before .before in
     c .row-count .result ≡ word (start past .args .book .now) (objectStart (start past .args .object) + 1)
-rows c = c .row-count .ensures ∙ ap (λ (o : ℕ). word (start (c .before .before) .args .book .now) (objectStart o + 1)) (c .before .wide .ensures)
+rows c =
+    c .row-count .ensures
+    ∙ ap (λ (o : ℕ). word (start (c .before .before) .args .book .now) (objectStart o + 1)) (c .before .wide .ensures)
 
 cast : tie.Need-cast-t7
 cast c =
     let past = c .before .before in
-    omega (arith, rows c, rows-few (start past .args .book .now) (start past .args .object) (within past) (is-accepted past .sound .packed))
+    omega (
+      arith,
+      rows c,
+      rows-few (start past .args .book .now) (start past .args .object) (within past)
+          (is-accepted past .sound .packed),
+    )
 
 served : tie.Need-returns-2
 served c =
@@ -52,4 +62,5 @@ served c =
     ∙ ap (λ (s : Served). s .outcome .reply) (contents-served w o _ (past .before .contents .ensures) (past .if1 .left))
 
 pub contents-count-spec : {M : Type 1} → statement M
-contents-count-spec = tie.close (tie.spec (λ c κs. search needs) refused (λ c κs. search needs) row-count-requires cast served)
+contents-count-spec =
+    tie.close (tie.spec (λ c κs. search needs) refused (λ c κs. search needs) row-count-requires cast served)

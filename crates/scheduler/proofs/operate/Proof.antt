@@ -27,7 +27,8 @@ requested c = let a = start c .args in request base (a .operation) (a .key) (a .
 refused : tie.Need-returns
 refused c =
     let a = c .before .before .before .before .args in
-    operate-refused (a .book .now) (a .transaction) (a .object) (a .operation) (a .key) (a .value) _ (c .before .operate .ensures (a .key) (a .value))
+    operate-refused (a .book .now) (a .transaction) (a .object) (a .operation) (a .key) (a .value) _
+    (c .before .operate .ensures (a .key) (a .value))
     (c .if1 .taken)
 
 is-accepted : (c : tie.Else1) → let a = start c .args in
@@ -46,15 +47,21 @@ request-requires c κs = let a = start c .args in numbered (a .operation) (a .ke
 blocker-requires : tie.Need-blocker-requires
 blocker-requires c κs =
     let past = c .before .before in
-    let a = is-accepted past in
-    (a .sound .packed, a .sound .store .unsettled .live, a .sound .store .unsettled .fits, within past, (requested past, c .before .request .ensures, a .kind))
+    let a = is-accepted past in (
+      a .sound .packed,
+      a .sound .store .unsettled .live,
+      a .sound .store .unsettled .fits,
+      within past,
+      (requested past, c .before .request .ensures, a .kind),
+    )
 
 waits : tie.Need-returns-2
 waits c =
     let asked = c .before .before .before in
     let past = asked .before in
     let a = start past .args in
-    operate-waits (a .book .now) (a .transaction) (a .object) (a .operation) (a .key) (a .value) _ (past .before .operate .ensures (a .key) (a .value))
+    operate-waits (a .book .now) (a .transaction) (a .object) (a .operation) (a .key) (a .value) _
+    (past .before .operate .ensures (a .key) (a .value))
     (past .if1 .left)
     _ (c .before .blocker .ensures (requested past) (asked .request .ensures)) (c .if2 .taken)
 
@@ -64,11 +71,17 @@ answer-requires c κs =
     let past = asked .before in
     let a = is-accepted past in
     let s = start past .args in
-    let request = asks (s .book .now) (s .transaction) (s .object) (s .operation) (s .key) (s .value) (asked .request .result) a (asked .request .ensures) in (
+    let request =
+    asks (s .book .now) (s .transaction) (s .object) (s .operation) (s .key) (s .value) (asked .request .result) a
+    (asked .request .ensures) in (
       a .sound .packed,
       subst (λ (n : ℕ). n < 16) (sym (c .wide .ensures)) (within past),
       a .sound .store .unsettled .room,
-      (requested past, subst (λ (n : ℕ). Requested (s .book .now) n (asked .request .result) (requested past)) (sym (c .wide .ensures)) request),
+      (
+        requested past,
+        subst (λ (n : ℕ). Requested (s .book .now) n (asked .request .result) (requested past))
+            (sym (c .wide .ensures)) request,
+      ),
     )
 
 append-requires : tie.Need-append-requires
@@ -76,8 +89,11 @@ append-requires c κs =
     let request = c .before .before .before .before .before .before .before in
     let past = request .before in
     let a = is-accepted past in
-    let w = start past .args .book .now in
-    (a .sound .packed, subst (λ (n : ℕ). n < 256) (length-tabulate (word w 0) (entryAt w)) (a .entries), (requested past, request .request .ensures))
+    let w = start past .args .book .now in (
+      a .sound .packed,
+      subst (λ (n : ℕ). n < 256) (length-tabulate (word w 0) (entryAt w)) (a .entries),
+      (requested past, request .request .ensures),
+    )
 
 answers : tie.Need-returns-3
 answers c =
@@ -91,12 +107,15 @@ answers c =
     let o = requested past in
     let at = answered .before in
     let given = answered .answer .ensures
-    ∙ answer-to (a .book .now) (at .wide .result) (subst (λ (n : ℕ). n < 16) (sym (at .wide .ensures)) (within past)) (request .request .result) o
+    ∙ answer-to (a .book .now) (at .wide .result) (subst (λ (n : ℕ). n < 16) (sym (at .wide .ensures)) (within past))
+    (request .request .result) o
     (named (request .request .result) o stored)
     ∙ ap (answerTo base o (decode base (a .book .now))) (at .wide .ensures) in
-    operate-answers (a .book .now) (a .transaction) (a .object) (a .operation) (a .key) (a .value) _ (past .before .operate .ensures (a .key) (a .value))
+    operate-answers (a .book .now) (a .transaction) (a .object) (a .operation) (a .key) (a .value) _
+    (past .before .operate .ensures (a .key) (a .value))
     (past .if1 .left)
-    _ (blocked .blocker .ensures o stored) (answered .before .before .before .if2 .left) (asReply (answered .answer .result)) given
+    _ (blocked .blocker .ensures o stored) (answered .before .before .before .if2 .left)
+    (asReply (answered .answer .result)) given
     _ (appended .append .ensures o stored)
 
 pub operate-spec : {M : Type 1} → statement M

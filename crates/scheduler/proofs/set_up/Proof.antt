@@ -20,7 +20,9 @@ refused c =
     set-up-refused (start .args .book .now) (start .args .kinds .now) _ (c .before .set-up .ensures) (c .if1 .taken)
 
 is-accepted : (c : tie.Else1) → SetUpAccepted (start c .args .book .now) (start c .args .kinds .now)
-is-accepted c = set-up-accepted base (start c .args .book .now) (start c .args .kinds .now) (sym (c .before .set-up .ensures) ∙ c .if1 .left)
+is-accepted c =
+    set-up-accepted base (start c .args .book .now) (start c .args .kinds .now)
+    (sym (c .before .set-up .ensures) ∙ c .if1 .left)
 
 write-empty-requires : tie.Need-write-empty-requires
 write-empty-requires c κs =
@@ -31,8 +33,11 @@ write-empty-requires c κs =
 done : tie.Need-returns-2
 done c =
     let past = c .before .before .before .before in
-    set-up-done (start past .args .book .now) (start past .args .kinds .now) _ (past .before .set-up .ensures) (past .if1 .left)
+    set-up-done (start past .args .book .now) (start past .args .kinds .now) _ (past .before .set-up .ensures)
+    (past .if1 .left)
     _ (c .before .before .write-empty .ensures)
 
 pub set-up-spec : {M : Type 1} → statement M
-set-up-spec = tie.close (tie.spec (λ c κs. search needs) (λ c. search needs) refused write-empty-requires (λ c. search needs) done)
+set-up-spec =
+    tie.close
+    (tie.spec (λ c κs. search needs) (λ c. search needs) refused write-empty-requires (λ c. search needs) done)

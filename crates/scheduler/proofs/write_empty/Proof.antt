@@ -46,7 +46,8 @@ loop-again : tie.Need-loop-again Inv-loop μ-loop
 loop-again c =
     let at-loop = c .before .before in (
       search needs,
-      one-written (start at-loop .args .kinds .now) (at-loop .loop .object) (at-loop .loop .book) (c .before .loop-test .taken)
+      one-written (start at-loop .args .kinds .now) (at-loop .loop .object) (at-loop .loop .book)
+          (c .before .loop-test .taken)
           (at-loop .loop .inv .1),
     )
 
@@ -58,7 +59,8 @@ returns c =
     let at-loop = c .before in
     let e : at-loop .loop .object ≡ 16 = omega (arith, c .loop-test .left, at-loop .loop .inv .0) in
     all-written (start at-loop .args .kinds .now) (at-loop .loop .book)
-    (subst (λ (n : ℕ). Written (start at-loop .args .kinds .now) n (at-loop .loop .book)) e (at-loop .loop .inv .1)) (start at-loop .pre .1) (known at-loop)
+    (subst (λ (n : ℕ). Written (start at-loop .args .kinds .now) n (at-loop .loop .book)) e (at-loop .loop .inv .1))
+    (start at-loop .pre .1) (known at-loop)
 
 pub write-empty-spec : {M : Type 1} → statement M
 write-empty-spec =

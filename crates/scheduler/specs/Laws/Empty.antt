@@ -9,7 +9,8 @@ use lib.Seq.{getD-set-same, getD-set-other}
 use Rattle.operations.specs.Operations.{All}
 use Rattle.operations.specs.Laws.Cases.{same}
 use Rattle.store.specs.Store.{absent, Object}
-use Rattle.store.specs.Layout.{base, word, tabulate, encode, decode, readStatus, readKind, statusAt, objectStart, readObject, rowAt, rowsAt, entryAt, ObjectPacked, Packed}
+use Rattle.store.specs.Layout.{base, word, tabulate, encode, decode, readStatus, readKind, statusAt, objectStart}
+use Rattle.store.specs.Layout.{readObject, rowAt, rowsAt, entryAt, ObjectPacked, Packed}
 use Rattle.store.specs.Theorems.{encoded}
 use Rattle.store.specs.Laws.Lists.{tabulate-zero}
 use Rattle.store.specs.Laws.Words.{below, zeros-word, all-getD, tabulate-list}
@@ -29,22 +30,27 @@ none-written kinds w zeros size e =
       rest = λ p other. ap (λ (x : List ℕ). word x p) e ∙ zeros-word (length w) p;
     }
 
-pub one-written : (kinds : List ℕ) (n : ℕ) (w : List ℕ) → n < 16 → Written kinds n w → Written kinds (n + 1) (set w (objectStart n) (getD kinds n 0))
+pub one-written : (kinds : List ℕ) (n : ℕ) (w : List ℕ) → n < 16 → Written kinds n w
+    → Written kinds (n + 1) (set w (objectStart n) (getD kinds n 0))
 one-written kinds n w l before =
     record {
       words = length-set w (objectStart n) (getD kinds n 0) ∙ before .words;
       kind = λ o m. same o n
-          (λ (e : o ≡ n). subst (λ (u : ℕ). word (set w (objectStart n) (getD kinds n 0)) (objectStart u) ≡ getD kinds u 0) (sym e)
+          (λ (e : o ≡ n).
+          subst (λ (u : ℕ). word (set w (objectStart n) (getD kinds n 0)) (objectStart u) ≡ getD kinds u 0) (sym e)
           (getD-set-same w (objectStart n) (getD kinds n 0) 0 (omega (arith, before .words))))
-          (λ (other : o ≡ n → ⊥). getD-set-other w (objectStart n) (objectStart o) (getD kinds n 0) 0 (λ e. other (omega arith))
+          (λ (other : o ≡ n → ⊥).
+          getD-set-other w (objectStart n) (objectStart o) (getD kinds n 0) 0 (λ e. other (omega arith))
           ∙ before .kind o (omega arith));
       rest = λ p other.
-          getD-set-other w (objectStart n) p (getD kinds n 0) 0 (other n (omega arith)) ∙ before .rest p (λ o m. other o (omega arith));
+          getD-set-other w (objectStart n) p (getD kinds n 0) 0 (other n (omega arith))
+          ∙ before .rest p (λ o m. other o (omega arith));
     }
 
 -- ---- All are written
 
-module _ (kinds w : List ℕ) (written : Written kinds 16 w) (size : length kinds ≡ 16) (known : All (λ k. k ≤ 3) kinds) where
+module _ (kinds w : List ℕ) (written : Written kinds 16 w) (size : length kinds ≡ 16)
+    (known : All (λ k. k ≤ 3) kinds) where
   no-status : (t : ℕ) → t < 64 → word w (1 + t) ≡ 0
   no-status t l = written .rest (1 + t) (λ o m e. omega arith)
 
@@ -87,7 +93,8 @@ module _ (kinds w : List ℕ) (written : Written kinds 16 w) (size : length kind
   object-read : (o : ℕ) → o < 16 → readObject w o ≡ getD (map object kinds) o (object 0)
   object-read o l =
       let rows : rowsAt w o ≡ [] = ap (λ (n : ℕ). tabulate n (rowAt w o)) (count o) ∙ tabulate-zero (rowAt w o) in
-      let read : readObject w o ≡ object (getD kinds o 0) = λ i. record { kind = readKind (written .kind o l i); rows = rows i } in
+      let read : readObject w o ≡ object (getD kinds o 0) =
+      λ i. record { kind = readKind (written .kind o l i); rows = rows i } in
       read ∙ sym (List·getD-map object kinds o 0)
 
   pub all-written : w ≡ encode base (empty kinds)
@@ -97,6 +104,8 @@ module _ (kinds w : List ℕ) (written : Written kinds 16 w) (size : length kind
       (λ t l. ap readStatus (no-status t l) ∙ sym (getD-replicate 64 t absent absent l)) in
       let objects : tabulate 16 (readObject w) ≡ map object kinds =
       tabulate-list (map object kinds) (object 0) 16 (readObject w) (length-map kinds object ∙ size) object-read in
-      let log : tabulate (word w 0) (entryAt w) ≡ [] = ap (λ (n : ℕ). tabulate n (entryAt w)) no-entries ∙ tabulate-zero (entryAt w) in
-      let read : decode base w ≡ empty kinds = λ i. record { statuses = statuses i; objects = objects i; log = log i } in
+      let log : tabulate (word w 0) (entryAt w) ≡ [] =
+      ap (λ (n : ℕ). tabulate n (entryAt w)) no-entries ∙ tabulate-zero (entryAt w) in
+      let read : decode base w ≡ empty kinds =
+      λ i. record { statuses = statuses i; objects = objects i; log = log i } in
       sym (encoded w is-packed) ∙ ap (encode base) read

@@ -10,9 +10,11 @@ use lib.ListN.{length, List·getD-eq-default}
 use Rattle.operations.specs.declared.Operation as words
 use Rattle.operations.specs.Operations.{Operation, Reply, kindOf, stored, reduceKey, numbered as operations}
 use Rattle.pairs.specs.Pairs.{Numbered}
-use Rattle.store.specs.Store.{Status, Store, active, pseudoCommitted, objectOf, onObject, pseudoCommittedCount}
+use Rattle.store.specs.Store.{Status, active, pseudoCommitted, Store, objectOf, onObject}
+use Rattle.store.specs.Store.{pseudoCommittedCount}
 use Rattle.store.specs.Layout.{base, encode, decode, readStatus, joined, rowWords}
 use Rattle.store.specs.Dependency.{Ready, OnCycle}
+use Rattle.store.specs.Soundness.{Sound}
 use Rattle.store.specs.Decisions.{whetherSound, whetherReady, whetherOnCycle}
 use Rattle.store.specs.Steps.{appended, withStatus}
 use Rattle.store.specs.Laws.Reading.{kind-below}
@@ -25,8 +27,9 @@ use Rattle.log.specs.Log.{logged, StoredAs}
 use Rattle.answers.specs.Answers.{Requested}
 use Rattle.answers.specs.Laws.Whole.{rows-read}
 use Rattle.requests.specs.Laws.Rules.{named}
-use Rattle.ending.specs.Ending.{Concluded}
-use Rattle.protocol.specs.Replies.{Response, ok, answered, wait, counted, refused, outcome, Served, served}
+use Rattle.sound.specs.Examined.{Examined}
+use Rattle.ending.specs.Ending.{Tracked, Concluded}
+use Rattle.protocol.specs.Replies.{Response, ok, answered, wait, counted, refused, Outcome, outcome, Served, served}
 use Rattle.protocol.specs.Replies as replies
 use Rattle.protocol.specs.Ending.{Settlement, ended, commit, committedFirst, settledAll}
 use Rattle.protocol.specs.Calls as calls
@@ -37,7 +40,8 @@ use Rattle.protocol.specs.Laws.Reasons.{unless-refused, unless-accepted, reques
 module _ (n reason : ℕ) (found : reason ≡ n) (w list : List ℕ) (s : Served) where
   said-no : (reason ≡ 0 → ⊥) → served w (outcome (refused reason) list []) ≡ calls.unless n w list s
   said-no applies =
-      ap (λ (m : ℕ). served w (outcome (refused m) list [])) found ∙ sym (unless-refused n w list s (λ (e : n ≡ 0). applies (found ∙ e)))
+      ap (λ (m : ℕ). served w (outcome (refused m) list [])) found
+      ∙ sym (unless-refused n w list s (λ (e : n ≡ 0). applies (found ∙ e)))
 
   accepted : reason ≡ 0 → s ≡ calls.unless n w list s
   accepted e = sym (unless-accepted n w list s (sym found ∙ e))
@@ -49,9 +53,11 @@ module _ (w kinds : List ℕ) (reason : ℕ) (found : reason ≡ calls.setUpReas
   unfolding calls.setUp
   set-up-refused applies = said-no _ reason found w [] _ applies
 
-  pub set-up-done : reason ≡ 0 → (after : List ℕ) → after ≡ encode base (calls.empty kinds) → served after (outcome ok [] []) ≡ calls.setUp base w kinds
+  pub set-up-done : reason ≡ 0 → (after : List ℕ) → after ≡ encode base (calls.empty kinds)
+      → served after (outcome ok [] []) ≡ calls.setUp base w kinds
   unfolding calls.setUp
-  set-up-done e after written = ap (λ (x : List ℕ). served x (outcome ok [] [])) written ∙ accepted _ reason found w [] _ e
+  set-up-done e after written =
+      ap (λ (x : List ℕ). served x (outcome ok [] [])) written ∙ accepted _ reason found w [] _ e
 
 module _ (w : List ℕ) (t reason : ℕ) (found : reason ≡ calls.beginReason base whetherSound w t) where
   pub begin-refused : (reason ≡ 0 → ⊥) → served w (outcome (refused reason) [] []) ≡ calls.begin base whetherSound w t
@@ -61,7 +67,8 @@ module _ (w : List ℕ) (t reason : ℕ) (found : reason ≡ calls.beginReason b
   pub begin-done : reason ≡ 0 → (after : List ℕ) → after ≡ encode base (withStatus t active (decode base w))
       → served after (outcome ok [] []) ≡ calls.begin base whetherSound w t
   unfolding calls.begin
-  begin-done e after written = ap (λ (x : List ℕ). served x (outcome ok [] [])) written ∙ accepted _ reason found w [] _ e
+  begin-done e after written =
+      ap (λ (x : List ℕ). served x (outcome ok [] [])) written ∙ accepted _ reason found w [] _ e
 
 -- ---- Operate
 
@@ -75,16 +82,20 @@ asks w t o number k v operation a stored =
       number = stored .0;
       named = named operation requested stored;
       key = request-reduced number k v;
-      rows = rw (← rows-read w o (kind-below base w o (kindOf requested) (a .kind))) (s .rows o (kindOf requested) (a .kind));
+      rows =
+          rw (← rows-read w o (kind-below base w o (kindOf requested) (a .kind)))
+          (s .rows o (kindOf requested) (a .kind));
       entries = entries-fit (decode base w) o (kindOf requested) (a .kind) (decode base w .log) (s .fits) (s .reduced);
     }
 
 module _ (w : List ℕ) (t o : ℕ) (requested : Operation) (owner : ℕ) where
   waits : (blocked : Option ℕ) → Names owner blocked → (owner ≡ 64 → ⊥)
       → served w (outcome (wait owner) [] []) ≡ calls.respond base w t o requested blocked
-  waits blocked named other = ap (calls.respond base w t o requested) (sym (names-somebody owner blocked named other .0))
+  waits blocked named other =
+      ap (calls.respond base w t o requested) (sym (names-somebody owner blocked named other .0))
 
-  answers : (blocked : Option ℕ) → Names owner blocked → owner ≡ 64 → (answer : Reply) → answer ≡ calls.answerTo base requested (decode base w) o
+  answers : (blocked : Option ℕ) → Names owner blocked → owner ≡ 64 → (answer : Reply)
+      → answer ≡ calls.answerTo base requested (decode base w) o
       → (after : List ℕ) → after ≡ encode base (appended (logged t o requested answer) (decode base w))
       → served after (outcome (answered answer) [] []) ≡ calls.respond base w t o requested blocked
   answers blocked named free answer given after written =
@@ -92,14 +103,16 @@ module _ (w : List ℕ) (t o : ℕ) (requested : Operation) (owner : ℕ) where
       (written ∙ ap (λ (a : Reply). encode base (appended (logged t o requested a) (decode base w))) given) given
       ∙ ap (calls.respond base w t o requested) (sym (names-nobody owner blocked named free))
 
-module _ (w : List ℕ) (t o number k v reason : ℕ) (found : reason ≡ calls.operateReason base whetherSound w t o number k v) where
+module _ (w : List ℕ) (t o number k v reason : ℕ)
+    (found : reason ≡ calls.operateReason base whetherSound w t o number k v) where
   abbrev requested : Operation
   requested = calls.request base number k v
 
   abbrev blocked : Option ℕ
   blocked = calls.blocker t requested (onObject o (decode base w .log))
 
-  pub operate-refused : (reason ≡ 0 → ⊥) → served w (outcome (refused reason) [] []) ≡ calls.operate base whetherSound w t o number k v
+  pub operate-refused : (reason ≡ 0 → ⊥)
+      → served w (outcome (refused reason) [] []) ≡ calls.operate base whetherSound w t o number k v
   unfolding calls.operate
   operate-refused applies = said-no _ reason found w [] _ applies
 
@@ -127,7 +140,8 @@ numbered (suc number) k v o e =
 -- ---- Contents
 
 module _ (w : List ℕ) (o reason : ℕ) (found : reason ≡ calls.contentsReason base whetherSound w o) where
-  pub contents-refused : (reason ≡ 0 → ⊥) → served w (outcome (refused reason) [] []) ≡ calls.contents base whetherSound w o
+  pub contents-refused : (reason ≡ 0 → ⊥)
+      → served w (outcome (refused reason) [] []) ≡ calls.contents base whetherSound w o
   unfolding calls.contents
   contents-refused applies = said-no _ reason found w [] _ applies
 
@@ -138,15 +152,29 @@ module _ (w : List ℕ) (o reason : ℕ) (found : reason ≡ calls.contentsReaso
 
 -- ---- Finish and cancel
 
-module _ (w : List ℕ) (t : ℕ) (list : List ℕ) (reason : ℕ) (found : reason ≡ calls.endReason base whetherSound w t list) where
+-- What `ending` asks of the book and of the sets found in it, where the book is sound.
+pub tracked : (w sets : List ℕ) (finished : ℕ) → Sound base w → Examined w finished sets → Tracked w sets finished
+tracked w sets finished sound found =
+    record {
+      packed = sound .packed;
+      unsettled = sound .store .unsettled;
+      whole = found .whole;
+      edges = found .represented;
+      members = found .members;
+    }
+
+module _ (w : List ℕ) (t : ℕ) (list : List ℕ) (reason : ℕ)
+    (found : reason ≡ calls.endReason base whetherSound w t list) where
   abbrev s : Store
   s = decode base w
 
-  pub finish-refused : (reason ≡ 0 → ⊥) → served w (outcome (refused reason) list []) ≡ calls.finish base whetherSound w t list
+  pub finish-refused : (reason ≡ 0 → ⊥)
+      → served w (outcome (refused reason) list []) ≡ calls.finish base whetherSound w t list
   unfolding calls.finish
   finish-refused applies = said-no _ reason found w list _ applies
 
-  pub cancel-refused : (reason ≡ 0 → ⊥) → served w (outcome (refused reason) list []) ≡ calls.cancel base whetherSound w t list
+  pub cancel-refused : (reason ≡ 0 → ⊥)
+      → served w (outcome (refused reason) list []) ≡ calls.cancel base whetherSound w t list
   unfolding calls.cancel
   cancel-refused applies = said-no _ reason found w list _ applies
 
@@ -160,25 +188,29 @@ module _ (w : List ℕ) (t : ℕ) (list : List ℕ) (reason : ℕ) (found : reas
     pub cancelled : (after : List ℕ) (count : ℕ) → Concluded (settledAll (ended t s)) list book after count
         → served book (outcome (replies.cancelled count) after []) ≡ calls.cancel base whetherSound w t list
     unfolding calls.cancel
-    cancelled after count c = concludes replies.cancelled (settledAll (ended t s)) after count c ∙ accepted _ reason found w list _ e
+    cancelled after count c =
+        concludes replies.cancelled (settledAll (ended t s)) after count c ∙ accepted _ reason found w list _ e
 
     module _ {cyclic : Bool} (cycle : (cyclic ≡ true) ↔ OnCycle s t) where
       decided-cycle : decide (whetherOnCycle s t) ≡ cyclic
       decided-cycle = decided (whetherOnCycle s t) cyclic cycle
 
-      pub circle : cyclic ≡ true → (after : List ℕ) (count : ℕ) → Concluded (settledAll (ended t s)) list book after count
+      pub circle : cyclic ≡ true → (after : List ℕ) (count : ℕ)
+          → Concluded (settledAll (ended t s)) list book after count
           → served book (outcome (replies.circle count) after []) ≡ calls.finish base whetherSound w t list
       unfolding calls.finish
       circle found-one after count c =
-          let chosen : calls.concluded base replies.circle list (settledAll (ended t s)) ≡ calls.finishActive base s t list =
+          let r = settledAll (ended t s) in
+          let chosen : calls.concluded base replies.circle list r ≡ calls.finishActive base s t list =
           rw (decided-cycle ∙ found-one) refl in
-          concludes replies.circle (settledAll (ended t s)) after count c ∙ chosen ∙ accepted _ reason found w list _ e
+          concludes replies.circle r after count c ∙ chosen ∙ accepted _ reason found w list _ e
 
       module _ (acyclic : cyclic ≡ false) {free : Bool} (ready : (free ≡ true) ↔ Ready (s .log) t) where
         decided-ready : decide (whetherReady (s .log) t) ≡ free
         decided-ready = decided (whetherReady (s .log) t) free ready
 
-        pub committed : free ≡ true → (after : List ℕ) (count : ℕ) → Concluded (committedFirst t (settledAll (commit t s))) list book after count
+        pub committed : free ≡ true → (after : List ℕ) (count : ℕ)
+            → Concluded (committedFirst t (settledAll (commit t s))) list book after count
             → served book (outcome (replies.committed count) after []) ≡ calls.finish base whetherSound w t list
         unfolding calls.finish
         committed is-free after count c =
@@ -187,13 +219,15 @@ module _ (w : List ℕ) (t : ℕ) (list : List ℕ) (reason : ℕ) (found : reas
             rw (decided-cycle ∙ acyclic, decided-ready ∙ is-free) refl in
             concludes replies.committed r after count c ∙ chosen ∙ accepted _ reason found w list _ e
 
-        pub finished : free ≡ false → (rank : ℕ) → rank ≡ pseudoCommittedCount s → book ≡ encode base (withStatus t (readStatus (2 + rank)) s)
+        pub finished : free ≡ false → (rank : ℕ) → rank ≡ pseudoCommittedCount s
+            → book ≡ encode base (withStatus t (readStatus (2 + rank)) s)
             → served book (outcome replies.finished list []) ≡ calls.finish base whetherSound w t list
         unfolding calls.finish
         finished depends rank same written =
             let next : readStatus (2 + rank) ≡ pseudoCommitted (pseudoCommittedCount s) =
             finished-read (2 + rank) (omega arith) ∙ ap pseudoCommitted (omega arith) in
-            let chosen : served (encode base (withStatus t (pseudoCommitted (pseudoCommittedCount s)) s)) (outcome replies.finished list [])
+            let given : Outcome = outcome replies.finished list [] in
+            let chosen : served (encode base (withStatus t (pseudoCommitted (pseudoCommittedCount s)) s)) given
             ≡ calls.finishActive base s t list = rw (decided-cycle ∙ acyclic, decided-ready ∙ depends) refl in
-            ap (λ (x : List ℕ). served x (outcome replies.finished list [])) (written ∙ ap (λ (x : Status). encode base (withStatus t x s)) next)
+            ap (λ (x : List ℕ). served x given) (written ∙ ap (λ (x : Status). encode base (withStatus t x s)) next)
             ∙ chosen ∙ accepted _ reason found w list _ e

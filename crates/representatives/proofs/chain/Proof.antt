@@ -1,0 +1,28 @@
+-- `representatives::chain`: entry i becomes the latest of its chain.
+use native.Mathlib.Omega.{arith}
+use borrow.Author.Needs.{needs}
+use Rattle.representatives.specs.Laws.Chains.{chained-more}
+use Rattle.representatives.proofs.chain.Statement.{statement}
+use Rattle.representatives.proofs.chain.Tie as tie
+
+returns : tie.Need-returns
+returns c =
+    let start = c .before .before .before in
+    chained-more _ (start .args .i) _ _ (start .pre .2) _ (c .before .slot .ensures .0) (c .before .slot .ensures .1)
+    (omega (arith, start .pre .0 .0 .entries, start .pre .0 .1)) (start .pre .1)
+
+pub chain-spec : {M : Type 1} → statement M
+chain-spec =
+    tie.close
+    (tie.spec
+    (λ c κs. search needs)
+    (λ c. search needs)
+    (λ c. search needs)
+    (λ c. search needs)
+    (λ c. search needs)
+    (λ c. search needs)
+    (λ c. search needs)
+    (λ c. search needs)
+    (λ c. search needs)
+    (λ c. search needs)
+    returns)

@@ -1,0 +1,4 @@
+pub mod Reading
+pub mod Firsts
+pub mod Chains
+pub mod All

@@ -1,0 +1,91 @@
+// Entries of the log found again by object and key: the first entry with an object and key represents those like it.
+ghost use mathlib.Core.Path.{_≡_};
+ghost use mathlib.Core.Bool.{true};
+ghost use mathlib.Core.Logic.{_↔_};
+ghost use Prim.Native.Nat.{_+_, _<_};
+ghost use Rattle.store.specs.Layout.{word, base, decode, Packed};
+ghost use Rattle.store.specs.Soundness.{EntriesLive, EntriesFit};
+ghost use Rattle.representatives.specs.Representatives.{InLog, Alike, First, Representative, Represented};
+ghost use Rattle.representatives.specs.Representatives.{slotAt, Latest, Chained, RepresentedBy};
+
+// A representative is in a chain: `heads` has the latest entry of each chain, `links` at `j + 1` the one before
+// entry `j`. Each is an entry's index plus one, or 0 for none.
+
+// Whether two entries have one object and one key.
+fn alike(book: &[u32], i: usize, j: usize) -> bool
+    requires { ⌜ InLog (now book) i × InLog (now book) j ⌝ }
+    ensures { λ r. ⌜ (r ≡ true) ↔ Alike (now (book .entry)) i j ⌝ }
+{
+    if layout::entry_object(book, j) != layout::entry_object(book, i) {
+        return false;
+    }
+    let logged = layout::entry_operation(book, j);
+    let requested = layout::entry_operation(book, i);
+    logged.key == requested.key
+}
+
+// The chain that an entry is put in.
+fn slot(book: &[u32], i: usize) -> usize
+    requires { ⌜ InLog (now book) i ⌝ }
+    ensures { λ r. ⌜ (r ≡ slotAt (now (book .entry)) i) × (r < 256) ⌝ }
+{
+    let operation = layout::entry_operation(book, i);
+    layout::wide((operation.key % 256 + 16 * layout::entry_object(book, i)) % 256)
+}
+
+// The earlier entry that represents entry `i`.
+fn find(book: &[u32], i: usize, heads: &[u16; 256], links: &[u16; 257]) -> u16
+    requires { ⌜ InLog (now book) i × Chained (now book) i (now heads) (now links) ⌝ }
+    ensures { λ r. ⌜ Latest (Representative (now (book .entry)) i) i r ⌝ }
+{
+    let mut at = heads[slot(book, i)];
+    while at != 0 {
+        let j = at as usize;
+        if alike(book, i, j - 1) {
+            return at;
+        }
+        at = links[j];
+    }
+    0
+}
+
+// Entry `i`, the first with its object and key, becomes the latest of its chain.
+fn chain(book: &[u32], i: usize, heads: &mut [u16; 256], links: &mut [u16; 257])
+    requires { ⌜ InLog (now book) i × First (now book) i × Chained (now book) i (now heads) (now links) ⌝ }
+    ensures { λ r. ⌜ Chained (now (book .entry)) (i + 1) (now (heads .exit)) (now (links .exit)) ⌝ }
+{
+    let at = slot(book, i);
+    links[i + 1] = heads[at];
+    heads[at] = (i + 1) as u16;
+}
+
+// The entry that represents entry `i`: an earlier one, or itself, which is then put in its chain.
+fn represent(book: &[u32], i: usize, heads: &mut [u16; 256], links: &mut [u16; 257]) -> u16
+    requires { ⌜ InLog (now book) i × Chained (now book) i (now heads) (now links) ⌝ }
+    ensures { λ r. ⌜ RepresentedBy (now (book .entry)) i r (now (heads .exit)) (now (links .exit)) ⌝ }
+{
+    let at = find(book, i, heads, links);
+    if at == 0 {
+        chain(book, i, heads, links);
+        return i as u16;
+    }
+    at - 1
+}
+
+// The representative of each entry.
+pub fn all(book: &[u32]) -> [u16; 256]
+    requires { ⌜ Packed base (now book) × EntriesLive (decode base (now book)) × EntriesFit (decode base (now book)) ⌝ }
+    ensures { λ r. ⌜ Represented (now (book .entry)) (word (now (book .entry)) 0) r ⌝ }
+{
+    let count = layout::entry_count(book);
+    let mut found = [0u16; 256];
+    if count == 0 {
+        return found;
+    }
+    let mut heads = [0u16; 256];
+    let mut links = [0u16; 257];
+    for i in 0..count {
+        found[i] = represent(book, i, &mut heads, &mut links);
+    }
+    found
+}

@@ -1,0 +1,8 @@
+pub mod Cells
+pub mod Words
+pub mod Seeking
+pub mod Stacks
+pub mod Serving
+pub mod Keyed
+pub mod Stacked
+pub mod Going
