@@ -1,4 +1,4 @@
-//! Two handouts on one stack: the paper's whole case, each call as a script line with its reply.
+//! Two handouts on one stack: the paper's whole case. Each call is printed with its reply, as in `whole_case.txt`.
 //!
 //!     rt staticlib capi
 //!     cargo run --manifest-path bindings/Cargo.toml --example whole_case

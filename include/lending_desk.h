@@ -17,6 +17,10 @@
 extern "C" {
 #endif
 
+/* The version of book, calls and replies, for books and programs that outlive one version: 1 is the base's, and each
+ * change request raises it. A macro, so that #if can ask for it. */
+#define LENDING_DESK_VERSION 1
+
 enum {
     LENDING_DESK_WORDS = 3937, /* words of a book */
     LENDING_DESK_OBJECTS = 16, /* objects 0 to 15, each of a kind */

@@ -7,19 +7,7 @@ use std::process::Command;
 
 use common::{built, printed, root};
 
-const WHOLE_CASE: &str = "\
-S 1 2 3         ok
-B 0             ok
-B 1             ok
-I 0 0 1 7 0     answer 1 0
-I 1 0 1 9 0     answer 1 0
-I 1 0 3 0 0     wait 0
-F 1             finished
-F 0             committed 0 1
-B 2             ok
-I 2 0 2 0 0     answer 1 9
-C 2             cancelled
-";
+const WHOLE_CASE: &str = include_str!("../../examples/whole_case.txt");
 
 /// The arguments of a command that an example's first lines name.
 fn documented(example: &str, command: &str) -> Vec<String> {

@@ -10,7 +10,8 @@ use std::ptr::addr_of;
 use common::{built, printed, run};
 use lending_desk::raw::{Accepted, Ended, Operated, Part};
 
-const NUMBERS: [(&str, usize); 37] = [
+const NUMBERS: [(&str, usize); 38] = [
+    ("VERSION", lending_desk::VERSION as usize),
     ("WORDS", lending_desk::WORDS),
     ("OBJECTS", lending_desk::OBJECTS),
     ("LIST", lending_desk::LIST),
@@ -83,7 +84,7 @@ fn expectations() -> Vec<(String, usize)> {
 
 /// A program that compiles only where the expectations hold, and ends well where set up accepts.
 fn program(expectations: &[(String, usize)]) -> String {
-    let mut text = "#include \"lending_desk.h\"\n".to_string();
+    let mut text = "#include \"lending_desk.h\"\n#if LENDING_DESK_VERSION < 1\n#error no version\n#endif\n".to_string();
     for (number, (expression, expected)) in expectations.iter().enumerate() {
         writeln!(text, "typedef char expectation_{number}[({expression}) == {expected} ? 1 : -1];").expect("a string");
     }

@@ -1,20 +1,26 @@
 //! `./desk`, the command of the README.
 
-use std::fs::{File, OpenOptions};
+use std::env;
+use std::fs::{self, File, OpenOptions};
 use std::io::Write;
-use std::path::Path;
+use std::os::unix::fs::symlink;
+use std::path::{Path, PathBuf};
 use std::process::{Command, Output, Stdio};
 
 use comparison::program::Program;
 
+fn root() -> PathBuf {
+    Path::new(env!("CARGO_MANIFEST_DIR")).join("..").canonicalize().expect("the repository is there")
+}
+
 /// `./desk`, once the program is there that it runs.
 fn desk() -> Command {
     Program::lending_desk();
-    Command::new(Path::new(env!("CARGO_MANIFEST_DIR")).join("../desk"))
+    Command::new(root().join("desk"))
 }
 
-fn crate_file(name: &str) -> std::path::PathBuf {
-    Path::new(env!("CARGO_MANIFEST_DIR")).join("../crates/lending_desk").join(name)
+fn crate_file(name: &str) -> PathBuf {
+    root().join("crates/lending_desk").join(name)
 }
 
 fn ended(command: &mut Command) -> Output {
@@ -22,31 +28,51 @@ fn ended(command: &mut Command) -> Output {
 }
 
 fn expected() -> Vec<u8> {
-    std::fs::read(crate_file("stdout")).expect("the crate has its expected output")
+    fs::read(crate_file("stdout")).expect("the crate has its expected output")
+}
+
+/// Asserts that a command serves the crate's input, and what it says on standard error.
+#[track_caller]
+fn assert_serves(command: &mut Command, said: &str) {
+    let Output { status, stdout, stderr } = ended(command);
+    assert_eq!(String::from_utf8_lossy(&stderr), said);
+    assert!(status.success());
+    assert_eq!(stdout, expected());
+}
+
+/// Asserts that a command serves nothing, and what it says instead.
+#[track_caller]
+fn assert_serves_nothing(command: &mut Command, said: &str) {
+    let Output { status, stdout, stderr } = ended(command);
+    assert_eq!(String::from_utf8_lossy(&stderr), said);
+    assert_eq!(status.code(), Some(2));
+    assert!(stdout.is_empty());
 }
 
 #[test]
 fn desk_serves_a_file() {
-    let Output { status, stdout, stderr } = ended(desk().arg(crate_file("stdin")));
-    assert!(status.success());
-    assert_eq!(stdout, expected());
-    assert!(stderr.is_empty(), "nothing to build: {}", String::from_utf8_lossy(&stderr));
+    assert_serves(desk().arg(crate_file("stdin")), ""); // nothing to build
 }
 
 #[test]
 fn desk_serves_standard_input() {
     let input = File::open(crate_file("stdin")).expect("the crate has its input");
-    let Output { status, stdout, .. } = ended(desk().stdin(input));
+    assert_serves(desk().stdin(input), "");
+}
+
+// ---- Help
+
+fn help() -> String {
+    let Output { status, stdout, .. } = ended(desk().arg("--help"));
     assert!(status.success());
-    assert_eq!(stdout, expected());
+    String::from_utf8(stdout).expect("text")
 }
 
 #[test]
-fn desk_says_the_calls_and_replies_in_a_dozen_lines() {
-    let Output { status, stdout, .. } = ended(desk().arg("--help"));
-    let help = String::from_utf8(stdout).expect("text");
-    assert!(status.success());
-    assert!(help.lines().count() <= 12);
+fn desk_says_the_calls_and_replies_in_twenty_lines() {
+    let help = help();
+    assert!(help.lines().count() <= 20);
+    assert!(help.lines().all(|line| line.chars().count() <= 120));
     for word in ["S ", "B ", "I ", "F ", "C ", "ok", "answer", "wait", "finished", "committed", "circle", "cancelled"] {
         assert!(help.contains(word), "{word}");
     }
@@ -54,11 +80,72 @@ fn desk_says_the_calls_and_replies_in_a_dozen_lines() {
 }
 
 #[test]
+fn desk_says_which_operations_a_kind_has() {
+    let help = help();
+    for (kind, operations) in [
+        ("stack", "1 push  2 pop  3 top"),
+        ("set", "4 insert  5 delete  6 member"),
+        ("table", "7 insert  8 delete  9 lookup  10 size  11 modify"),
+    ] {
+        let line = help.lines().find(|line| line.trim_start().starts_with(&format!("{kind} ")));
+        assert!(line.map_or(false, |line| line.ends_with(&format!("  {operations}"))), "{kind}: {line:?}");
+    }
+}
+
+/// In the words of the README's table, which has two numbers with their reasons in a row.
+#[test]
+fn desk_says_what_each_refusal_means() {
+    let (readme, help) = (fs::read_to_string(root().join("README.md")).expect("the README is there"), help());
+    let rows = readme.lines().skip_while(|line| !line.starts_with("| number | reason |")).skip(2);
+    let cells: Vec<&str> =
+        rows.take_while(|line| line.starts_with('|')).flat_map(|row| row.trim_matches('|').split('|')).collect();
+    let mut numbers: Vec<u32> = Vec::new();
+    for pair in cells.chunks(2).filter(|pair| !pair[0].trim().is_empty()) {
+        numbers.push(pair[0].trim().parse().expect("a number"));
+        let reason = format!(" {} {}", pair[0].trim(), pair[1].trim());
+        let ends = |rest: &str| rest.starts_with("  ") || rest.starts_with('\n');
+        assert!(help.split(&reason).skip(1).any(ends), "{reason}");
+    }
+    numbers.sort_unstable();
+    assert!(numbers.into_iter().eq(1..=11), "the README has all of them");
+    assert!(help.contains("script meets 3 and 5 to 11 only"));
+}
+
+// ---- What it cannot serve
+
+#[test]
 fn desk_refuses_what_it_cannot_serve() {
     for arguments in [&["no such file"][..], &["."], &["--no-such-option"], &["one", "two"]] {
         let Output { status, stdout, stderr } = ended(desk().args(arguments));
         assert_eq!(status.code(), Some(2), "{arguments:?}");
         assert!(stdout.is_empty() && !stderr.is_empty(), "{arguments:?}");
+    }
+}
+
+/// `./desk` as a shell's command starts it, with arguments and redirections; ended if it hangs.
+fn desk_with(words: &str) -> Command {
+    let mut shell = Command::new("sh");
+    shell.args(["-c", &format!("exec timeout 30 \"$0\" {words}")]).arg(desk().get_program());
+    shell.current_dir(crate_file(""));
+    shell
+}
+
+#[test]
+fn desk_says_that_standard_input_is_closed() {
+    for words in ["<&-", "- <&-"] {
+        assert_serves_nothing(&mut desk_with(words), "desk: standard input is closed\n");
+    }
+}
+
+#[test]
+fn desk_serves_a_file_without_standard_input() {
+    assert_serves(&mut desk_with("stdin <&-"), "");
+}
+
+#[test]
+fn desk_says_that_standard_output_is_closed() {
+    for words in ["<stdin >&-", "stdin >&-", "<&- >&-", "--help >&-"] {
+        assert_serves_nothing(&mut desk_with(words), "desk: standard output is closed\n");
     }
 }
 
@@ -81,4 +168,130 @@ fn desk_fails_where_nobody_reads() {
     let Output { status, stderr, .. } = running.wait_with_output().expect("./desk ends");
     assert_eq!(status.code(), Some(1));
     assert!(String::from_utf8_lossy(&stderr).contains("lending_desk: standard output"));
+}
+
+// ---- Where it stands, and what it stands beside
+
+/// An empty folder for a test.
+fn folder(name: &str) -> PathBuf {
+    let path = Path::new(env!("CARGO_TARGET_TMPDIR")).join(name);
+    let _ = fs::remove_dir_all(&path);
+    fs::create_dir_all(&path).expect("a folder is made");
+    path
+}
+
+#[test]
+fn desk_is_found_behind_links() {
+    Program::lending_desk();
+    let folder = folder("links");
+    for (link, target) in [("root", root()), ("absolute", root().join("desk"))] {
+        symlink(target, folder.join(link)).expect("a link is made");
+    }
+    for (link, target) in [("relative", "root/desk"), ("twice", "relative")] {
+        symlink(target, folder.join(link)).expect("a link is made");
+    }
+    for link in ["absolute", "relative", "twice", "root/desk"] {
+        assert_serves(Command::new(folder.join(link)).arg("stdin").current_dir(crate_file("")), "");
+        assert_serves(Command::new("bash").args([link]).arg(crate_file("stdin")).current_dir(&folder), "");
+    }
+}
+
+/// CDPATH leads a `cd` to a folder of the same name elsewhere.
+#[test]
+fn desk_is_found_with_cdpath_set() {
+    Program::lending_desk();
+    let folder = folder("cdpath");
+    fs::create_dir_all(folder.join("elsewhere/root")).expect("a folder is made");
+    symlink(root(), folder.join("root")).expect("a link is made");
+    let mut desk = Command::new("bash");
+    desk.arg("root/desk").arg(crate_file("stdin")).current_dir(&folder).env("CDPATH", folder.join("elsewhere"));
+    assert_serves(&mut desk, "");
+}
+
+/// A repository with `./desk`, its program and the list of crates, in which only the commands of its folder `bin` are
+/// found.
+struct Repository(PathBuf);
+
+impl Repository {
+    /// Commands that `./desk` needs to serve and to build: all but `rt`.
+    const COMMANDS: [&'static str; 12] =
+        ["awk", "bash", "cat", "cp", "dirname", "find", "grep", "mktemp", "readlink", "rm", "tee", "touch"];
+
+    fn new(name: &str) -> Self {
+        Program::lending_desk();
+        let repository = Repository(folder(name));
+        for name in ["bin", "crates", "target/bin"] {
+            fs::create_dir_all(repository.0.join(name)).expect("a folder is made");
+        }
+        for name in ["desk", "crates.txt", "target/bin/lending_desk"] {
+            fs::copy(root().join(name), repository.0.join(name)).expect("a file is copied");
+        }
+        let path = env::var_os("PATH").expect("commands are found");
+        for name in Repository::COMMANDS {
+            let found = env::split_paths(&path).map(|folder| folder.join(name)).find(|file| file.is_file());
+            let found = found.unwrap_or_else(|| panic!("{name} does not run here"));
+            symlink(found, repository.0.join("bin").join(name)).expect("a link is made");
+        }
+        repository
+    }
+
+    fn program(&self) -> PathBuf {
+        self.0.join("target/bin/lending_desk")
+    }
+
+    /// Makes the program older than the sources.
+    fn age_program(&self) {
+        let touched = Command::new("touch").args(["-d", "2000-01-01"]).arg(self.program()).status();
+        assert!(touched.expect("touch starts").success());
+    }
+
+    fn remove_program(&self) {
+        fs::remove_file(self.program()).expect("the program was there");
+    }
+
+    /// Puts an `rt` there that builds the program, and speaks as the real one does.
+    fn add_rt(&self) {
+        fs::copy(self.program(), self.0.join("kept")).expect("a file is copied");
+        let rt = self.0.join("bin/rt");
+        let text = "#!/usr/bin/env bash\necho 'rt: script proved'\ncp kept target/bin/lending_desk\n";
+        fs::write(&rt, text).expect("a file is written");
+        assert!(Command::new("chmod").arg("+x").arg(rt).status().expect("chmod starts").success());
+    }
+
+    fn desk(&self) -> Command {
+        let mut desk = Command::new(self.0.join("desk"));
+        desk.arg(crate_file("stdin")).env("PATH", self.0.join("bin"));
+        desk
+    }
+}
+
+#[test]
+fn desk_runs_a_program_that_may_be_old_where_rt_is_missing() {
+    let repository = Repository::new("no_rt");
+    assert_serves(&mut repository.desk(), "");
+    repository.age_program();
+    let may_be_old = "desk: the program may be old: a source is newer, and rt, which builds it, does not run here\n";
+    assert_serves(&mut repository.desk(), may_be_old);
+}
+
+#[test]
+fn desk_says_that_rt_is_missing_where_the_program_is_too() {
+    let repository = Repository::new("no_rt_and_no_program");
+    repository.remove_program();
+    let missing = "desk: rt does not run here: it is the Rattle toolchain's command\n";
+    assert_serves_nothing(&mut repository.desk(), missing);
+}
+
+#[test]
+fn desk_builds_a_program_that_is_old_or_missing() {
+    let repository = Repository::new("rt");
+    repository.add_rt();
+    for spoil in [Repository::age_program, Repository::remove_program] {
+        spoil(&repository);
+        let Output { status, stdout, stderr } = ended(&mut repository.desk());
+        assert!(status.success());
+        assert_eq!(stdout, expected());
+        assert!(String::from_utf8_lossy(&stderr).contains("crates proved"));
+        assert_serves(&mut repository.desk(), ""); // nothing to build any more
+    }
 }

@@ -1,11 +1,14 @@
 //! The documents hold: what they link to is there, and so are the paths, functions, laws, theorems and must-fail edits
-//! that they name; the session in the README is what the program prints, and its C is C.
+//! that they name; the promises name every edit; the session in the README is what the program prints, and its C is C.
+//! The proved whole case is that of the listing.
 
+use std::collections::BTreeSet;
 use std::fs;
 use std::io::Write;
 use std::path::{Path, PathBuf};
 use std::process::{Command, Stdio};
 
+use comparison::common::{columns, WHOLE_CASE};
 use comparison::program::Program;
 
 /// Folders whose paths are written out from the repository's root.
@@ -55,13 +58,9 @@ impl Document {
 
     /// The rows of its tables.
     fn rows(&self) -> Vec<Row<'_>> {
-        let (mut head, mut subject) = (Vec::new(), None);
+        let mut head = Vec::new();
         let mut rows = Vec::new();
         for line in self.prose() {
-            if line.starts_with("## ") {
-                subject = None;
-            }
-            subject = subject.or_else(|| crate_in(line));
             if !line.starts_with('|') {
                 head.clear();
                 continue;
@@ -70,7 +69,7 @@ impl Document {
             if head.is_empty() {
                 head = cells;
             } else if !line.starts_with("|---") {
-                rows.push(Row { head: head.clone(), cells, subject });
+                rows.push(Row { head: head.clone(), cells });
             }
         }
         rows
@@ -81,8 +80,6 @@ impl Document {
 struct Row<'a> {
     head: Vec<&'a str>,
     cells: Vec<&'a str>,
-    /// The crate that its section names first.
-    subject: Option<&'a str>,
 }
 
 impl Row<'_> {
@@ -164,12 +161,6 @@ fn is_there(folder: &Path, path: &str) -> bool {
             .filter(|name| name.starts_with(front) && name.ends_with(back))
             .any(|name| is_there(&folder.join(name), rest)),
     }
-}
-
-/// The crate of the first path in a line.
-fn crate_in(line: &str) -> Option<&str> {
-    let (name, _) = line.split_once("crates/")?.1.split_once('/')?;
-    Some(name).filter(|name| is_crate(name))
 }
 
 fn is_crate(name: &str) -> bool {
@@ -265,25 +256,35 @@ fn missing_laws(row: &Row) -> Vec<String> {
     missing.map(|name| format!("{file} has no law {name}")).collect()
 }
 
-/// Must-fail edits that a table names by their labels alone, and that aren't there: they are edits of the crate that
-/// the cell names before them, or else of the one that the section names first.
-fn missing_edits(row: &Row) -> Vec<String> {
-    if !row.last_head().contains("(edit") {
-        return Vec::new();
-    }
-    let mut subject = row.subject;
-    let mut missing = Vec::new();
-    for name in quoted(row.last()) {
-        if is_crate(name) {
-            subject = Some(name);
-        } else if is_word(name, "_") && name.contains('_') {
-            let subject = subject.unwrap_or("no crate");
-            if !is_there(&root(), &format!("crates/{subject}/must-fail/{name}.edit")) {
-                missing.push(format!("{subject} has no must-fail edit {name}"));
-            }
+// ---- Must-fail edits
+
+/// The edits that there are, as `crate/label`.
+fn edits() -> BTreeSet<String> {
+    let crates = root().join("crates");
+    let labels = |name: &String| names_in(&crates.join(name).join("must-fail"));
+    let of = |name: String| {
+        let labels = labels(&name).into_iter().filter_map(|file| file.strip_suffix(".edit").map(str::to_string));
+        labels.map(|label| format!("{name}/{label}")).collect::<Vec<_>>()
+    };
+    names_in(&crates).into_iter().flat_map(of).collect()
+}
+
+/// The edits that a document names, there or not: a crate and a word that is no part of it.
+fn named_edits(document: &Document) -> BTreeSet<String> {
+    let is_edit = |name: &&str| match name.split_once('/') {
+        Some((first, label)) => {
+            is_crate(first) && is_word(label, "_") && !root().join("crates").join(first).join(label).exists()
         }
-    }
-    missing
+        None => false,
+    };
+    document.prose().into_iter().flat_map(quoted).filter(is_edit).map(str::to_string).collect()
+}
+
+/// Where a document that is to name these edits, and no others, does not.
+fn unlike_edits(document: &Document, edits: &BTreeSet<String>) -> Vec<String> {
+    let named = named_edits(document);
+    let unnamed = edits.difference(&named).map(|edit| format!("{edit} isn't named"));
+    unnamed.chain(named.difference(edits).map(|edit| format!("there is no edit {edit}"))).collect()
 }
 
 // ---- What the README shows
@@ -334,8 +335,10 @@ fn theorems_and_laws_are_there() {
 }
 
 #[test]
-fn must_fail_edits_are_there() {
-    assert_holds(|document| document.rows().iter().flat_map(missing_edits).collect());
+fn promises_name_every_edit() {
+    let edits = edits();
+    assert!(!edits.is_empty());
+    assert_eq!(unlike_edits(&Document::read("docs/PROMISES.md"), &edits), [""; 0]);
 }
 
 #[test]
@@ -344,6 +347,16 @@ fn session_is_what_the_program_prints() {
     assert!(input.lines().count() > 5 && input.lines().count() == output.lines().count(), "{input}{output}");
     let printed = Program::lending_desk().run(input.as_bytes()).expect("the program ends well");
     assert_eq!(String::from_utf8_lossy(&printed), output);
+}
+
+/// A proved case cannot read a file: it has the listing's columns as two texts.
+#[test]
+fn proved_case_has_the_listing() {
+    let Document { path, text } = Document::read("crates/script/specs/Cases.antt");
+    let (input, output) = columns(WHOLE_CASE);
+    for column in [input, output] {
+        assert!(text.contains(&format!("= {column:?}\n")), "{path} should have {column:?}");
+    }
 }
 
 /// The commands for the examples are those in the examples' own heads.
@@ -370,14 +383,18 @@ fn fragment_is_c() {
     assert!(compiler.wait().expect("cc ends").success(), "{program}");
 }
 
-/// What the checks say of a text that stands in `docs`.
+/// A text that stands in `docs`.
+fn document(text: &str) -> Document {
+    Document { path: "docs/TEXT.md".to_string(), text: text.to_string() }
+}
+
+/// What the checks say of it.
 fn said(text: &str) -> Vec<String> {
-    let document = Document { path: "docs/TEXT.md".to_string(), text: text.to_string() };
+    let document = document(text);
     let lines = |line: &str| [broken_links(&document.path, line), missing_paths(line), missing_items(line)].concat();
     let rows = document.rows();
     let specs = antt_below(&root().join("crates/store/specs"));
-    let rows =
-        rows.iter().flat_map(|row| [missing_theorems(row, &specs), missing_laws(row), missing_edits(row)].concat());
+    let rows = rows.iter().flat_map(|row| [missing_theorems(row, &specs), missing_laws(row)].concat());
     document.prose().into_iter().flat_map(lines).chain(rows).collect()
 }
 
@@ -390,8 +407,6 @@ fn right_texts_are_let_through() {
         "```\n[not](looked-at.md) `docs/none`\n```",
         "| subject | laws |\n|---|---|\n| `crates/store/specs/Laws/Lists.antt` | `length-tabulate` |",
         "| name | promise |\n|---|---|\n| `zeros-sound` (`Theorems.antt`) | |",
-        "In `crates/store/src`.\n\n| name | it rules out (edit) |\n|---|---|\n| | (`dependency_reversed`) |",
-        "| call | it rules out (edit) |\n|---|---|\n| | of `store`: (`dependency_reversed`) |",
     ] {
         assert_eq!(said(text), [""; 0], "{text}");
     }
@@ -411,9 +426,17 @@ fn wrong_texts_are_noticed() {
         "`log::appended`",
         "| subject | laws |\n|---|---|\n| `crates/store/specs/Laws/Lists.antt` | `length-tabulated` |",
         "| name | promise |\n|---|---|\n| `zeros-unsound` | |",
-        "In `crates/log/src`.\n\n| name | it rules out (edit) |\n|---|---|\n| | (`dependency_reversed`) |",
-        "## `crates/store`\n\n## Another\n\n| call | it rules out (edit) |\n|---|---|\n| | (`dependency_reversed`) |",
     ] {
         assert_eq!(said(text).len(), 1, "{text}: {:?}", said(text));
     }
+}
+
+#[test]
+fn edits_are_compared_both_ways() {
+    let edits: BTreeSet<String> = ["log/one", "store/two"].map(str::to_string).into();
+    let apart = |text: &str| unlike_edits(&document(text), &edits);
+    assert_eq!(apart("`store/two`, `store/specs`, `no/such`, and again `store/two`\n| `log/one` |"), [""; 0]);
+    assert_eq!(apart("`store/two`"), ["log/one isn't named"]);
+    assert_eq!(apart("```\n`log/one`\n```\n`store/two`"), ["log/one isn't named"]);
+    assert_eq!(apart("`log/one`, `store/one`"), ["store/two isn't named", "there is no edit store/one"]);
 }

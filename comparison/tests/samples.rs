@@ -2,42 +2,25 @@
 
 use std::fs;
 
-use comparison::common::transcript_lines;
+use comparison::common::{columns, WHOLE_CASE};
 use comparison::difference;
 use comparison::program::{saved, Program};
 
 /// Lines of input, and the lines of output that the paper gives for them.
 type Sample = (String, String);
 
-/// A sample written as in the paper: on each line a call, two spaces or more, what is said to it.
-fn transcript(text: &str) -> Sample {
-    transcript_lines(text).map(|(call, reply)| (format!("{call}\n"), format!("{reply}\n"))).unzip()
-}
-
 /// On one stack, transaction 0's line is taken so many times and then refused.
 fn taken(line: &str, answer: &str, times: usize, refusal: &str) -> Sample {
     let taken = format!("{line}  {answer}\n").repeat(times);
-    transcript(&format!("S 1  ok\n B 0  ok\n {taken} {line}  {refusal}\n"))
+    columns(&format!("S 1  ok\n B 0  ok\n {taken} {line}  {refusal}\n"))
 }
 
 fn whole_case() -> Sample {
-    transcript(
-        "S 1 2 3         ok
-         B 0             ok
-         B 1             ok
-         I 0 0 1 7 0     answer 1 0
-         I 1 0 1 9 0     answer 1 0
-         I 1 0 3 0 0     wait 0
-         F 1             finished
-         F 0             committed 0 1
-         B 2             ok
-         I 2 0 2 0 0     answer 1 9
-         C 2             cancelled",
-    )
+    columns(WHOLE_CASE)
 }
 
 fn last_handout() -> Sample {
-    transcript(
+    columns(
         "S     ok
          B 63  ok
          B 64  refused 5",
@@ -53,7 +36,7 @@ fn full_stack() -> Sample {
 }
 
 fn circle() -> Sample {
-    transcript(
+    columns(
         "S 1 1           ok
          B 0             ok
          B 1             ok

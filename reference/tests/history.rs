@@ -4,7 +4,7 @@ mod common;
 
 use std::collections::BTreeSet;
 
-use common::call_of;
+use common::{call_of, WHOLE_CASE};
 use reference::history::{Altered, History, Objects};
 use reference::{Outcome, Refusal, Reply};
 
@@ -51,22 +51,13 @@ fn live(history: &History) -> Vec<u32> {
 
 #[test]
 fn whole_case_is_kept_and_served() {
-    let history = history_of(
-        "S 1 2 3      ok
-         B 0          ok
-         B 1          ok
-         I 0 0 1 7 0  answer 1 0
-         I 1 0 1 9 0  answer 1 0
-         I 1 0 3 0 0  wait 0
-         F 1          finished
-         F 0          committed 0 1
-         B 2          ok
-         I 2 0 2 0 0  answer 1 9",
-    );
+    let (before, _) = WHOLE_CASE.split_once("C 2 ").expect("handout 2 is cancelled");
+    let history = history_of(before);
     assert_eq!(live(&history), [2]);
     assert_eq!(history.serve_committed().unwrap().rows(0), [7, 0, 9, 0]);
     assert_eq!(dropping(&history, &[]), Ok(()));
     assert_eq!(dropping(&history, &[2]), Ok(()));
+    assert_eq!(live(&history_of(WHOLE_CASE)), []);
 }
 
 #[test]

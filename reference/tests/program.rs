@@ -6,7 +6,7 @@ use std::fs;
 use std::io::Write;
 use std::process::{Child, Command, Output, Stdio};
 
-use common::printed;
+use common::{columns, printed, WHOLE_CASE};
 
 fn start(output: Stdio) -> Child {
     Command::new(env!("CARGO_BIN_EXE_reference_desk"))
@@ -25,8 +25,9 @@ fn feed(mut program: Child, input: &[u8]) -> Output {
 
 #[test]
 fn program_prints_what_the_script_says() {
-    let script = b"S 1 2 3\nB 0\nB 1\nI 0 0 1 7 0\nI 1 0 1 9 0\nI 1 0 3 0 0\nF 1\nF 0\n\xff\nB 2";
-    let Output { status, stdout, stderr } = feed(start(Stdio::piped()), script);
+    let (calls, _) = columns(WHOLE_CASE);
+    let script = [calls.as_bytes(), b"\xff\nB 2"].concat();
+    let Output { status, stdout, stderr } = feed(start(Stdio::piped()), &script);
     assert!(status.success());
     assert_eq!(String::from_utf8_lossy(&stdout), printed(&script[..]));
     assert!(stderr.is_empty());

@@ -2,7 +2,7 @@
 
 mod common;
 
-use common::{assert_printed, printed};
+use common::{assert_printed, printed, WHOLE_CASE};
 use reference::rules::{commutes, recoverable};
 
 const PUSH: u32 = 1;
@@ -13,19 +13,7 @@ const MODIFY: u32 = 11;
 
 #[test]
 fn whole_case() {
-    assert_printed(
-        "S 1 2 3         ok
-         B 0             ok
-         B 1             ok
-         I 0 0 1 7 0     answer 1 0
-         I 1 0 1 9 0     answer 1 0
-         I 1 0 3 0 0     wait 0
-         F 1             finished
-         F 0             committed 0 1
-         B 2             ok
-         I 2 0 2 0 0     answer 1 9
-         C 2             cancelled",
-    );
+    assert_printed(WHOLE_CASE);
 }
 
 /// Asserts what one transaction's operations are answered, on an empty stack 0, set 1 and table 2.

@@ -1,33 +1,16 @@
--- Replay of an object's entries in order, from its rows; and the rows that they may add.
+-- A request on an object; and the rows that an operation may need, by its number.
 use Prim.Native.Nat.{ℕ}
 use mathlib.Core.Path.{_≡_}
-use mathlib.Core.Bool.{cond, _||_}
-use mathlib.Core.Option.{some}
-use mathlib.Core.List.{List, [], _∷_}
-use lib.Dec.{eqb}
-use lib.ListN.{drop}
-use Rattle.operations.specs.Operations.{Row, Operation, Reply, next, reply, kindOf, numberOf, reduceKey, StoredKey}
-use Rattle.operations.specs.Operations.{WellFormed, All}
+use mathlib.Core.Bool.{cond}
+use mathlib.Core.Option.{Option, none, some}
+use mathlib.Core.List.{List}
+use Rattle.operations.specs.Operations.{Operation, Answer, kindOf, numberOf, reduceKey, StoredKey, Fits}
+use Rattle.operations.specs.Operations.{WellFormed, All, adds, stored}
 use Rattle.operations.specs.declared.Operation as words
 use Rattle.operations.specs.Stored.{operationOf}
-use Rattle.operations.specs.Log.{Entry, EntryFits}
-use Rattle.operations.specs.Laws.Objects.{object}
+use Rattle.operations.specs.Log.{Entry}
 use Rattle.store.specs.Store.{onObject}
-use Rattle.store.specs.Layout.{word, tabulate, entryAt, rowsAt}
-
--- Served in order from the rows, each entry gets the answer that it was given: `Answered` for every kind at once.
-abbrev pub Served : List (Entry Operation Reply) → List Row → Type 0
-Served [] rs = Unit {0}
-Served (e ∷ l) rs = (reply (e .operation) rs ≡ e .answer) × Served l (next (e .operation) rs)
-
--- The rows that serving them reaches.
-abbrev pub replayed : List (Entry Operation Reply) → List Row → List Row
-replayed [] rs = rs
-replayed (e ∷ l) rs = replayed l (next (e .operation) rs)
-
--- An object's entries from place i of the log on.
-abbrev pub entriesFrom : List ℕ → ℕ → ℕ → List (Entry Operation Reply)
-entriesFrom w o i = onObject o (drop i (tabulate (word w 0) (entryAt w)))
+use Rattle.store.specs.Layout.{decode, base, rowsAt}
 
 -- A request on an object: its words name an operation of a kind that the object's rows and entries are of.
 pub record Requested (w : List ℕ) (o : ℕ) (operation : words.Operation) (requested : Operation) : Type 0 where
@@ -35,8 +18,14 @@ pub record Requested (w : List ℕ) (o : ℕ) (operation : words.Operation) (req
   pub named : operationOf operation ≡ some requested
   pub key : StoredKey reduceKey requested
   pub rows : WellFormed reduceKey (kindOf requested) (rowsAt w o)
-  pub entries : All (EntryFits (object reduceKey (kindOf requested))) (entriesFrom w o 0)
+  pub entries : All (λ (e : Entry Operation Answer). Fits reduceKey (kindOf requested) (e .operation))
+      (onObject o (decode base w .log))
 
--- How many rows an operation may need, by its number: one for a push or an insert.
-abbrev pub rowsNeeded : ℕ → ℕ
-rowsNeeded number = cond (eqb number 1 || (eqb number 4 || eqb number 7)) 1 0
+-- How many rows an operation may need: one where it adds.
+abbrev pub rowsFor : Option Operation → ℕ
+rowsFor none = 0
+rowsFor (some o) = cond (adds o) 1 0
+
+-- The same of the operation that a number names.
+unfoldable pub rowsNeeded : ℕ → ℕ
+rowsNeeded number = rowsFor (stored (λ k. k) number 0 0)

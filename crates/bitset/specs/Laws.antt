@@ -1,14 +1,17 @@
--- The members of the sets that a shift, `|`, `&` and `!` make, the test of one bit, and the lowest member; sets by their members.
+-- The members of the sets that a shift, `|`, `&` and `!` make, the test of one bit, and the lowest member; sets by
+-- their members.
 use mathlib.Core.Path.{_≡_, refl, sym, ap, _∙_}
 use mathlib.Core.Bool.{Bool, true, false, cond, not, _&&_, _||_, true≢false, false≢true, and-eq-true-iff}
 use mathlib.Core.Logic.{_↔_, _⊎_, inl, inr, ⊎-elim}
 use Prim.Native.Nat.{ℕ, zero, suc, _-_, _*_, _/_, _%_, _^_, _<_, _≤_}
-use native.Mathlib.Nat.{zero-lt-suc, not-suc-le-zero, lt-of-not-le, lt-of-lt-of-le, mod-lt, mod-eq-of-lt, one-mul, pow-suc, div-one, zero-div, div-eq-of-lt, mul-mod-left, mul-div-mul-right}
+use native.Mathlib.Nat.{zero-lt-suc, not-suc-le-zero, lt-of-not-le, lt-of-lt-of-le, mod-lt, mod-eq-of-lt, one-mul}
+use native.Mathlib.Nat.{pow-suc, div-one, zero-div, div-eq-of-lt, mul-mod-left, mul-div-mul-right}
 use native.Mathlib.Numerals.{one-add}
 use native.Mathlib.Omega.{arith}
 use borrow.Author.Tests.{eqb-true, eqb-false, ne-eqb, not-true}
 use lib.Arith.{bin-ind, lt-one}
-use lib.Bits.{bitAnd, bitOr, bitXor, and-shr, or-shr, xor-shr, and-mod, or-mod, xor-mod, and-mask, and-comm, and-le-r, xor-add-and}
+use lib.Bits.{bitAnd, bitOr, bitXor, and-shr, or-shr, xor-shr, and-mod, or-mod, xor-mod, and-mask, and-comm, and-le-r}
+use lib.Bits.{xor-add-and}
 use lib.Count.{trailingZeros, under}
 use lib.Dec.{eqb, eqb·zero-suc, eqb·suc-zero, eqb·suc-suc}
 use lib.Pow.{pow-mono, pow-lt, shr-shr}
@@ -97,10 +100,12 @@ bit-same =
 
 pub same-members : (a b : ℕ) → Members a (has b) → a ≡ b
 same-members =
-    bin-ind (λ (a : ℕ). (b : ℕ) → Members a (has b) → a ≡ b) (λ b same. sym (no-members b (λ h. sym (same h) ∙ no-member h)))
+    bin-ind (λ (a : ℕ). (b : ℕ) → Members a (has b) → a ≡ b)
+    (λ b same. sym (no-members b (λ h. sym (same h) ∙ no-member h)))
     (λ (a : ℕ) (upper : (b : ℕ) → Members (a / 2) (has b) → a / 2 ≡ b) (b : ℕ) (same : Members a (has b)).
     let u : a / 2 ≡ b / 2 = upper (b / 2) (λ h. half a h ∙ same (suc h) ∙ sym (half b h)) in
-    let l : a % 2 ≡ b % 2 = bit-same (a % 2) (mod-lt a (zero-lt-suc 1)) (b % 2) (mod-lt b (zero-lt-suc 1)) (sym (first a) ∙ same 0 ∙ first b) in
+    let l : a % 2 ≡ b % 2 =
+    bit-same (a % 2) (mod-lt a (zero-lt-suc 1)) (b % 2) (mod-lt b (zero-lt-suc 1)) (sym (first a) ∙ same 0 ∙ first b) in
     omega arith)
 
 -- A set of 64 bits has members below 64 alone.
@@ -146,7 +151,8 @@ but : (p o e : Bool) → (p ≡ true → o ≡ true) → p && cond o (not e) e �
 but true o e f = rw (f refl)
 but false o e f = refl
 
-pub removed : (s x t : ℕ) → s < 2 ^ 64 → x < 2 ^ 64 → Members x (λ h. eqb h t) → Members (bitAnd s ((2 ^ 64 - 1) - x)) (λ h. has s h && not (eqb h t))
+pub removed : (s x t : ℕ) → s < 2 ^ 64 → x < 2 ^ 64 → Members x (λ h. eqb h t)
+    → Members (bitAnd s ((2 ^ 64 - 1) - x)) (λ h. has s h && not (eqb h t))
 removed s x t l m one h =
     let part : bitAnd (2 ^ 64 - 1) x ≡ x = and-comm (2 ^ 64 - 1) x ∙ and-mask x 64 ∙ mod-eq-of-lt m in
     ap (λ (n : ℕ). has (bitAnd s n) h) (difference (2 ^ 64 - 1) x part)
@@ -196,10 +202,12 @@ either true b = (λ e. inl refl, λ s. refl)
 either false b = (inr, ⊎-elim (λ e. absurd (false≢true e)) (λ e. e))
 
 pub in-union : (r a b : ℕ) → Members r (λ h. has a h || has b h) → (h : ℕ) → In r h ↔ (In a h ⊎ In b h)
-in-union r a b union h = (λ m. either (has a h) (has b h) .0 (sym (union h) ∙ m), λ m. union h ∙ either (has a h) (has b h) .1 m)
+in-union r a b union h =
+    (λ m. either (has a h) (has b h) .0 (sym (union h) ∙ m), λ m. union h ∙ either (has a h) (has b h) .1 m)
 
 pub in-rest : (r s t : ℕ) → Members r (λ h. has s h && not (eqb h t)) → (h : ℕ) → In r h ↔ (In s h × (h ≡ t → ⊥))
 in-rest r s t rest h = (
-  λ m. let both = and-eq-true-iff (has s h) (not (eqb h t)) .0 (sym (rest h) ∙ m) in (both .0, eqb-false h t (not-true (eqb h t) (both .1))),
+  λ m. let both = and-eq-true-iff (has s h) (not (eqb h t)) .0 (sym (rest h) ∙ m) in
+      (both .0, eqb-false h t (not-true (eqb h t) (both .1))),
   λ m. rest h ∙ and-eq-true-iff (has s h) (not (eqb h t)) .1 (m .0, ap not (ne-eqb h t (m .1))),
 )

@@ -1,40 +1,20 @@
 -- Replies as the C interface writes them.
-use Prim.Native.Nat.{ℕ, _+_}
+use Prim.Native.Nat.{ℕ, _+_, _*_}
+use mathlib.Core.Path.{_≡_}
 use mathlib.Core.Bool.{cond}
 use mathlib.Core.List.{List}
 use lib.Dec.{eqb}
-use Rattle.store.specs.Layout.{objectStart}
-use Rattle.protocol.specs.Replies.{Response, ok, answered, wait, finished, committed, circle, cancelled, counted, refused, Served}
-use Rattle.capi.specs.declared.Numbers.{Numbers}
+use lib.ListN.{take, drop}
+use Rattle.store.specs.Layout.{base, objectStart}
+use Rattle.store.specs.Decisions.{whetherSound}
+use Rattle.protocol.specs.Replies.{Served}
+use Rattle.protocol.specs.Calls as calls
+use Rattle.codes.specs.Codes.{numbersOf}
+use Rattle.codes.specs.declared.Numbers.{Numbers}
 use Rattle.capi.specs.declared.Accepted.{Accepted}
 use Rattle.capi.specs.declared.Operated.{Operated}
 use Rattle.capi.specs.declared.Ended.{Ended}
 use Rattle.capi.specs.declared.Part.{Part}
-
-abbrev numbers : (refusal code owner answer value count rows : ℕ) → Numbers
-numbers refusal code owner answer value count rows =
-    record {
-      refusal = refusal;
-      code = code;
-      owner = owner;
-      answer = answer;
-      value = value;
-      count = count;
-      rows = rows;
-    }
-
--- The numbers of a reply, those that it doesn't have 0: the reason for saying no; the reply code of 02, No. 3; of a wait the owner; an operation's
--- answer; how many the list names; how many rows.
-abbrev pub numbersOf : Response → Numbers
-numbersOf ok = numbers 0 0 0 0 0 0 0
-numbersOf (wait owner) = numbers 0 0 owner 0 0 0 0
-numbersOf (answered answer) = numbers 0 1 0 (answer .code) (answer .value) 0 0
-numbersOf finished = numbers 0 2 0 0 0 0 0
-numbersOf (committed count) = numbers 0 3 0 0 0 count 0
-numbersOf (circle count) = numbers 0 4 0 0 0 count 0
-numbersOf (cancelled count) = numbers 0 5 0 0 0 count 0
-numbersOf (counted rows) = numbers 0 0 0 0 0 0 rows
-numbersOf (refused reason) = numbers reason 0 0 0 0 0 0
 
 abbrev pub accepted : Numbers → Accepted
 accepted n = record { refusal = n .refusal }
@@ -47,9 +27,22 @@ ended n = record { refusal = n .refusal; code = n .code; count = n .count }
 
 -- An object's rows start behind its kind and their number.
 abbrev pub part : ℕ → Numbers → Part
-part object n = record { refusal = n .refusal; start = cond (eqb (n .refusal) 0) (objectStart object + 2) 0; rows = n .rows }
+part object n =
+    record {
+      refusal = n .refusal;
+      start = cond (eqb (n .refusal) 0) (objectStart object + 2) 0;
+      rows = n .rows;
+    }
 
--- All that an exported call leaves: every word of the book, every byte of the list, none where the call takes none, and its reply.
+-- The part of the book that these numbers name is what contents hands back.
+abbrev pub Handed : List ℕ → ℕ → Part → Type 0
+Handed book object p =
+    let handed : Served = calls.contents base whetherSound book object in
+    (p ≡ part object (numbersOf (handed .outcome .reply)))
+    × (take (2 * (p .rows)) (drop (p .start) book) ≡ handed .outcome .rows)
+
+-- All that an exported call leaves: every word of the book, every byte of the list, none where the call takes none, and
+-- its reply.
 pub record Exported (A : Type 0) : Type 0 where
   pub book : List ℕ
   pub list : List ℕ

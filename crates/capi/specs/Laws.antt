@@ -1,36 +1,31 @@
 -- Laws of replies as the C interface writes them.
-use Prim.Native.Nat.{ℕ, _+_, _-_, _*_, _<_}
+use Prim.Native.Nat.{ℕ, _+_, _*_, _<_}
 use mathlib.Core.Path.{_≡_, refl, ap, ap₂, sym, _∙_}
 use mathlib.Core.Bool.{Bool, cond}
 use mathlib.Core.List.{List}
-use native.Mathlib.Omega.{arith}
 use lib.ListN.{take, drop}
 use borrow.Author.Tests.{eq-eqb, ne-eqb}
 use Rattle.operations.specs.Laws.Cases.{same}
-use Rattle.store.specs.Layout.{base, word, objectStart}
+use Rattle.store.specs.Layout.{base, objectStart}
 use Rattle.store.specs.Decisions.{whetherSound}
 use Rattle.store.specs.Laws.Reading.{kind-below}
-use Rattle.store.specs.Laws.Rows.{rows-part, rows-counted}
-use Rattle.protocol.specs.Replies.{Response, outcome, Served, served}
+use Rattle.protocol.specs.Replies.{Reply, outcome, Served, served}
 use Rattle.protocol.specs.Calls as calls
 use Rattle.protocol.specs.Terms.{ContentsAccepted}
 use Rattle.protocol.specs.Laws.Reasons.{contents-accepted}
-use Rattle.scheduler.specs.Responses.{responseOf}
-use Rattle.scheduler.specs.declared.Response as code
+use Rattle.protocol.specs.Laws.Leaving.{contents-part}
 use Rattle.scheduler.specs.Laws.Serving.{contents-refused, contents-served}
-use Rattle.capi.specs.Exported.{numbersOf, exported, written, part}
-use Rattle.capi.specs.declared.Numbers.{Numbers}
-use Rattle.capi.specs.declared.Part.{Part}
-
--- The numbers of a response that is known.
-pub known : (response : code.Response) {r : code.Response} → response ≡ r → numbersOf (responseOf r) ≡ numbersOf (responseOf response)
-known response told = sym (ap (λ (x : code.Response). numbersOf (responseOf x)) told)
+use Rattle.codes.specs.Codes.{numbersOf}
+use Rattle.codes.specs.declared.Numbers.{Numbers}
+use Rattle.capi.specs.Exported.{exported, written, part, Handed}
 
 module _ {A : Type 0} (write : Numbers → A) where
   -- A call's reply is written by its numbers.
-  pub exports : {n : Numbers} (book list rows : List ℕ) {r : Response} {s : Served} → n ≡ numbersOf r → served book (outcome r list rows) ≡ s
+  pub exports : {n : Numbers} (book list rows : List ℕ) {r : Reply} {s : Served} → n ≡ numbersOf r
+      → served book (outcome r list rows) ≡ s
       → exported book list (write n) ≡ written write s
-  exports book list rows numbered left = ap (λ (m : Numbers). exported book list (write m)) numbered ∙ ap (written write) left
+  exports book list rows numbered left =
+      ap (λ (m : Numbers). exported book list (write m)) numbered ∙ ap (written write) left
 
 -- ---- Contents
 
@@ -41,10 +36,6 @@ module _ (w : List ℕ) (o : ℕ) where
   abbrev reason : ℕ
   reason = calls.contentsReason base whetherSound w o
 
-  -- The part of the book that these numbers name is what contents hands back.
-  abbrev pub Handed : Part → Type 0
-  Handed p = (p ≡ part o (numbersOf (handed .outcome .reply))) × (take (2 * (p .rows)) (drop (p .start) w) ≡ handed .outcome .rows)
-
   module _ (n : Numbers) (numbered : n ≡ numbersOf (handed .outcome .reply)) where
     -- A number of the reply, where it is known what the call left.
     number : (f : Numbers → ℕ) {s : Served} → s ≡ handed → f n ≡ f (numbersOf (s .outcome .reply))
@@ -52,7 +43,9 @@ module _ (w : List ℕ) (o : ℕ) where
 
     no-reason : n .refusal ≡ 0 → reason ≡ 0
     no-reason none =
-        same reason 0 (λ e. e) (λ applies. absurd (applies (sym (number (λ m. m .refusal) (contents-refused w o reason refl applies)) ∙ none)))
+        same reason 0 (λ e. e)
+        (λ applies. absurd (applies
+        (sym (number (λ m. m .refusal) (contents-refused w o reason refl applies)) ∙ none)))
 
     is-accepted : n .refusal ≡ 0 → ContentsAccepted base w o
     is-accepted none = contents-accepted base whetherSound w o (no-reason none)
@@ -63,22 +56,24 @@ module _ (w : List ℕ) (o : ℕ) where
     -- A part that starts where `part` says.
     starting : (start : ℕ) → start ≡ part o n .start
         → record { refusal = n .refusal; start = start; rows = n .rows } ≡ part o (numbersOf (handed .outcome .reply))
-    starting start e = ap (λ (at : ℕ). record { refusal = n .refusal; start = at; rows = n .rows }) e ∙ ap (part o) numbered
+    starting start e =
+        ap (λ (at : ℕ). record { refusal = n .refusal; start = at; rows = n .rows }) e ∙ ap (part o) numbered
 
     pub accepted-part : n .refusal ≡ 0 → (start : ℕ) → start ≡ objectStart o + 2
-        → Handed (record { refusal = n .refusal; start = start; rows = n .rows })
+        → Handed w o (record { refusal = n .refusal; start = start; rows = n .rows })
     accepted-part none start at =
         let left = contents-served w o reason refl (no-reason none) in
-        let counted : n .rows ≡ word w (objectStart o + 1) = number (λ m. m .rows) left ∙ rows-counted w o (within none) in
-        let size : 2 * (n .rows) ≡ objectStart o + 2 + 2 * (n .rows) - (objectStart o + 2) = omega arith in (
+        let counted = number (λ m. m .rows) left in (
           starting start (at ∙ sym (ap (λ (b : Bool). cond b (objectStart o + 2) 0) (eq-eqb (n .refusal) 0 none))),
-          ap₂ (λ (k : ℕ) (start : ℕ). take k (drop start w)) size at
-              ∙ rows-part w o (within none) (is-accepted none .sound .packed) (n .rows) counted ∙ ap (λ (s : Served). s .outcome .rows) left,
+          ap₂ (λ (k : ℕ) (start : ℕ). take (2 * k) (drop start w)) counted at
+              ∙ sym (contents-part w o (no-reason none)) ∙ ap (λ (s : Served). s .outcome .rows) left,
         )
 
-    pub refused-part : (n .refusal ≡ 0 → ⊥) → Handed (record { refusal = n .refusal; start = 0; rows = n .rows })
+    pub refused-part : (n .refusal ≡ 0 → ⊥) → Handed w o (record { refusal = n .refusal; start = 0; rows = n .rows })
     refused-part applies =
-        let left = contents-refused w o reason refl (λ none. applies (number (λ m. m .refusal) (contents-served w o reason refl none))) in (
+        let left =
+        contents-refused w o reason refl
+        (λ none. applies (number (λ m. m .refusal) (contents-served w o reason refl none))) in (
           starting 0 (sym (ap (λ (b : Bool). cond b (objectStart o + 2) 0) (ne-eqb (n .refusal) 0 applies))),
           ap (λ (k : ℕ). take (2 * k) w) (number (λ m. m .rows) left) ∙ ap (λ (s : Served). s .outcome .rows) left,
         )

@@ -1,25 +1,11 @@
-// The calls for programs in other languages, by C's rules of calling: a slice is a pointer and a length. None asks anything of its arguments.
-use scheduler::Response;
+// The calls for programs in other languages, by C's rules of calling: a slice is a pointer and a length. None asks
+// anything of its arguments.
 ghost use mathlib.Core.Path.{_≡_};
 ghost use mathlib.Core.List.{[]};
-ghost use Prim.Native.Nat.{_*_};
-ghost use lib.ListN.{take, drop};
 ghost use Rattle.store.specs.Layout.{base};
 ghost use Rattle.store.specs.Decisions.{whetherSound};
 ghost use Rattle.protocol.specs.Calls as calls;
-ghost use Rattle.scheduler.specs.Responses.{responseOf};
-ghost use Rattle.capi.specs.Exported.{numbersOf, accepted, operated, ended, part, exported, written};
-
-// The numbers of a reply; `Exported` says which reply has which.
-struct Numbers {
-    refusal: u32,
-    code: u32,
-    owner: u32,
-    answer: u32,
-    value: u32,
-    count: u32,
-    rows: u32,
-}
+ghost use Rattle.capi.specs.Exported.{accepted, operated, ended, exported, written, Handed};
 
 // What set up and begin reply: the reason for saying no, or 0.
 #[repr(C)]
@@ -53,58 +39,21 @@ pub struct Part {
     pub rows: u32,
 }
 
-fn read(response: Response) -> Numbers
-    ensures { λ r. ⌜ r ≡ numbersOf (responseOf response) ⌝ }
-{
-    let mut n = Numbers {
-        refusal: 0,
-        code: 0,
-        owner: 0,
-        answer: 0,
-        value: 0,
-        count: 0,
-        rows: 0,
-    };
-    match response {
-        Response::Ok => {}
-        Response::Wait(owner) => n.owner = owner,
-        Response::Answered(code, value) => {
-            n.code = 1;
-            n.answer = code;
-            n.value = value;
-        }
-        Response::Finished => n.code = 2,
-        Response::Committed(count) => {
-            n.code = 3;
-            n.count = count;
-        }
-        Response::Circle(count) => {
-            n.code = 4;
-            n.count = count;
-        }
-        Response::Cancelled(count) => {
-            n.code = 5;
-            n.count = count;
-        }
-        Response::Counted(rows) => n.rows = rows,
-        Response::Refused(reason) => n.refusal = reason,
-    }
-    n
-}
-
 #[no_mangle]
 pub extern "C" fn lending_desk_set_up(book: &mut [u32], kinds: &[u8]) -> Accepted
-    ensures { λ r. ⌜ exported (now (book .exit)) [] r ≡ written accepted (calls.setUp base (now (book .entry)) (now (kinds .entry))) ⌝ }
+    ensures { λ r. ⌜ exported (now (book .exit)) [] r
+        ≡ written accepted (calls.setUp base (now (book .entry)) (now (kinds .entry))) ⌝ }
 {
-    let n = read(scheduler::set_up(book, kinds));
+    let n = codes::numbers_of(scheduler::set_up(book, kinds));
     Accepted { refusal: n.refusal }
 }
 
 #[no_mangle]
 pub extern "C" fn lending_desk_begin(book: &mut [u32], transaction: u32) -> Accepted
-    ensures { λ r. ⌜ exported (now (book .exit)) [] r ≡ written accepted (calls.begin base whetherSound (now (book .entry)) transaction) ⌝ }
+    ensures { λ r. ⌜ exported (now (book .exit)) [] r
+        ≡ written accepted (calls.begin base whetherSound (now (book .entry)) transaction) ⌝ }
 {
-    let n = read(scheduler::begin(book, transaction));
+    let n = codes::numbers_of(scheduler::begin(book, transaction));
     Accepted { refusal: n.refusal }
 }
 
@@ -117,9 +66,11 @@ pub extern "C" fn lending_desk_operate(
     key: u32,
     value: u32,
 ) -> Operated
-    ensures { λ r. ⌜ exported (now (book .exit)) [] r ≡ written operated (calls.operate base whetherSound (now (book .entry)) transaction object operation key value) ⌝ }
+    ensures { λ r. ⌜ exported (now (book .exit)) [] r
+        ≡ written operated
+        (calls.operate base whetherSound (now (book .entry)) transaction object operation key value) ⌝ }
 {
-    let n = read(scheduler::operate(book, transaction, object, operation, key, value));
+    let n = codes::numbers_of(scheduler::operate(book, transaction, object, operation, key, value));
     Operated {
         refusal: n.refusal,
         code: n.code,
@@ -131,9 +82,10 @@ pub extern "C" fn lending_desk_operate(
 
 #[no_mangle]
 pub extern "C" fn lending_desk_finish(book: &mut [u32], transaction: u32, list: &mut [u8]) -> Ended
-    ensures { λ r. ⌜ exported (now (book .exit)) (now (list .exit)) r ≡ written ended (calls.finish base whetherSound (now (book .entry)) transaction (now (list .entry))) ⌝ }
+    ensures { λ r. ⌜ exported (now (book .exit)) (now (list .exit)) r
+        ≡ written ended (calls.finish base whetherSound (now (book .entry)) transaction (now (list .entry))) ⌝ }
 {
-    let n = read(scheduler::finish(book, transaction, list));
+    let n = codes::numbers_of(scheduler::finish(book, transaction, list));
     Ended {
         refusal: n.refusal,
         code: n.code,
@@ -143,9 +95,10 @@ pub extern "C" fn lending_desk_finish(book: &mut [u32], transaction: u32, list: 
 
 #[no_mangle]
 pub extern "C" fn lending_desk_cancel(book: &mut [u32], transaction: u32, list: &mut [u8]) -> Ended
-    ensures { λ r. ⌜ exported (now (book .exit)) (now (list .exit)) r ≡ written ended (calls.cancel base whetherSound (now (book .entry)) transaction (now (list .entry))) ⌝ }
+    ensures { λ r. ⌜ exported (now (book .exit)) (now (list .exit)) r
+        ≡ written ended (calls.cancel base whetherSound (now (book .entry)) transaction (now (list .entry))) ⌝ }
 {
-    let n = read(scheduler::cancel(book, transaction, list));
+    let n = codes::numbers_of(scheduler::cancel(book, transaction, list));
     Ended {
         refusal: n.refusal,
         code: n.code,
@@ -155,12 +108,12 @@ pub extern "C" fn lending_desk_cancel(book: &mut [u32], transaction: u32, list: 
 
 #[no_mangle]
 pub extern "C" fn lending_desk_contents(book: &[u32], object: u32) -> Part
-    ensures { λ r. ⌜ (r ≡ part object (numbersOf (calls.contents base whetherSound (now (book .entry)) object .outcome .reply))) × (take (2 * (r .rows)) (drop (r .start) (now (book .entry))) ≡ calls.contents base whetherSound (now (book .entry)) object .outcome .rows) ⌝ }
+    ensures { λ r. ⌜ Handed (now (book .entry)) object r ⌝ }
 {
-    let n = read(scheduler::contents_count(book, object));
+    let n = codes::numbers_of(scheduler::contents_count(book, object));
     let mut start: u32 = 0;
-    if n.refusal == 0 {
-        start = (layout::FIRST_OBJECT + layout::OBJECT * layout::wide(object) + 2) as u32;
+    if n.refusal == protocol::ACCEPTED {
+        start = layout::rows_start(layout::wide(object)) as u32;
     }
     Part {
         refusal: n.refusal,

@@ -4,11 +4,11 @@ use mathlib.Core.Logic.{_↔_}
 use mathlib.Core.List.{List}
 use lib.ListN.{getD}
 use Rattle.bitset.specs.Bitset.{In}
-use Rattle.store.specs.Dependency.{Path}
+use Rattle.store.specs.Dependency.{Leads}
 
 abbrev pub EdgeIn : List ℕ → ℕ → ℕ → Type 0
 EdgeIn sets a b = In (getD sets a 0) b
 
 -- The set of those that a way leads to.
 abbrev pub Reaches : List ℕ → ℕ → ℕ → ℕ → Type 0
-Reaches sets through from set = (b : ℕ) → In set b ↔ Path (EdgeIn sets) (In through) from b
+Reaches sets through from set = (b : ℕ) → In set b ↔ Leads (EdgeIn sets) (In through) from b

@@ -1,14 +1,29 @@
 // Who depends on whom: the owners of earlier entries that an entry of the log is not recoverable against, or does not
 // commute with. An entry is held against sets of owners, one for each operation of its object's kind, and not against
 // each earlier entry.
+use layout::ENTRIES;
+use layout::OBJECTS;
+use layout::TRANSACTIONS;
+use operations::LOOKUP;
+use operations::MEMBER;
+use operations::MODIFY;
+use operations::POP;
+use operations::PUSH;
+use operations::SET_DELETE;
+use operations::SET_INSERT;
+use operations::SIZE;
+use operations::TABLE_DELETE;
+use operations::TABLE_INSERT;
+use operations::TOP;
 ghost use mathlib.Core.Path.{_≡_};
 ghost use mathlib.Core.Bool.{true};
 ghost use mathlib.Core.Logic.{_↔_};
 ghost use Prim.Native.Nat.{_+_, _<_};
 ghost use lib.ListN.{length, getD, replicate};
+ghost use Rattle.store.specs.Store.{transactionCount};
 ghost use Rattle.bitset.specs.Bitset.{Represents};
-ghost use Rattle.operations.specs.PairRules.{Rule};
-ghost use Rattle.pairs.specs.Pairs.{codeOf, Numbered, firstOf, columnOf, widthOf, RowsOf};
+ghost use Rattle.operations.specs.PairRules.{Rule, Numbered};
+ghost use Rattle.pairs.specs.Pairs.{codeOf, firstOf, columnOf, widthOf, RowsOf};
 ghost use Rattle.store.specs.Layout.{word, base, decode, Packed};
 ghost use Rattle.store.specs.Soundness.{EntriesLive, EntriesFit, EntriesRecoverable};
 ghost use Rattle.store.specs.Dependency.{DependsOn};
@@ -31,37 +46,37 @@ struct Entry {
 }
 
 // The owners of an object's entries, a set for each operation of its kind.
-type Owners = [u64; 5];
+type Owners = [u64; pairs::BROAD];
 
 // The owners of the entries with one object and key, a set for each column that `key_column` tells.
-type KeyOwners = [u64; 3];
+type KeyOwners = [u64; KEY_COLUMNS];
 
 const KEY_COLUMNS: usize = 3;
 
 // ---- Operations by number
 
-// The first number of a number's kind.
+// The first number of a number's kind; not by `kind_of`, since each entry asks for it and that is more work.
 fn first(number: u32) -> u32
     requires { ⌜ Numbered number ⌝ }
     ensures { λ r. ⌜ r ≡ firstOf number ⌝ }
 {
-    if number <= 3 {
-        return 1;
+    if number <= TOP {
+        return PUSH;
     }
-    if number <= 6 {
-        return 4;
+    if number <= MEMBER {
+        return SET_INSERT;
     }
-    7
+    TABLE_INSERT
 }
 
 // How many operations the kind has.
 fn width(number: u32) -> usize
     ensures { λ r. ⌜ r ≡ widthOf number ⌝ }
 {
-    if number <= 6 {
-        return 3;
+    if operations::kind_of(number) == operations::TABLE {
+        return pairs::BROAD;
     }
-    5
+    pairs::NARROW
 }
 
 // What a rule picks: the owners of entries on the object, or of those with the same key, or nobody.
@@ -78,16 +93,16 @@ fn pick(rule: u8, whole: u64, same: u64) -> u64
     chosen
 }
 
-// Where the owners of an operation's entries stand among those with their key; 3 where its key tells nothing. A table's
-// insert and delete share a column, since no rule tells them apart.
+// Where the owners of an operation's entries stand among those with their key, or past the last where its key tells
+// nothing. A table's insert and delete share a column, since no rule tells them apart.
 fn key_column(number: u32) -> usize
     ensures { λ r. ⌜ r ≡ keyColumn number ⌝ }
 {
     match number {
-        4 | 7 | 8 => 0,
-        5 | 9 => 1,
-        6 | 11 => 2,
-        _ => 3,
+        SET_INSERT | TABLE_INSERT | TABLE_DELETE => 0,
+        SET_DELETE | LOOKUP => 1,
+        MEMBER | MODIFY => 2,
+        _ => KEY_COLUMNS,
     }
 }
 
@@ -132,23 +147,23 @@ fn barring(number: u32, whole: &Owners, same: &KeyOwners) -> Blockers
     ensures { λ r. ⌜ PickedBoth number (now (whole .entry)) (now (same .entry)) (r .unrecoverable) (r .conflicting) ⌝ }
 {
     match number {
-        1 => picked(1, pairs::rows(1), whole, same),
-        2 => picked(2, pairs::rows(2), whole, same),
-        3 => picked(3, pairs::rows(3), whole, same),
-        4 => picked(4, pairs::rows(4), whole, same),
-        5 => picked(5, pairs::rows(5), whole, same),
-        6 => picked(6, pairs::rows(6), whole, same),
-        7 => picked(7, pairs::rows(7), whole, same),
-        8 => picked(8, pairs::rows(8), whole, same),
-        9 => picked(9, pairs::rows(9), whole, same),
-        10 => picked(10, pairs::rows(10), whole, same),
-        _ => picked(11, pairs::rows(11), whole, same),
+        PUSH => picked(PUSH, pairs::rows(PUSH), whole, same),
+        POP => picked(POP, pairs::rows(POP), whole, same),
+        TOP => picked(TOP, pairs::rows(TOP), whole, same),
+        SET_INSERT => picked(SET_INSERT, pairs::rows(SET_INSERT), whole, same),
+        SET_DELETE => picked(SET_DELETE, pairs::rows(SET_DELETE), whole, same),
+        MEMBER => picked(MEMBER, pairs::rows(MEMBER), whole, same),
+        TABLE_INSERT => picked(TABLE_INSERT, pairs::rows(TABLE_INSERT), whole, same),
+        TABLE_DELETE => picked(TABLE_DELETE, pairs::rows(TABLE_DELETE), whole, same),
+        LOOKUP => picked(LOOKUP, pairs::rows(LOOKUP), whole, same),
+        SIZE => picked(SIZE, pairs::rows(SIZE), whole, same),
+        _ => picked(MODIFY, pairs::rows(MODIFY), whole, same),
     }
 }
 
 // One owner more in an object's row.
 fn add_owner(row: &mut Owners, number: u32, owner: u32)
-    requires { ⌜ (length (now row) ≡ 5) × Numbered number × (owner < 64) ⌝ }
+    requires { ⌜ (length (now row) ≡ 5) × Numbered number × (owner < transactionCount) ⌝ }
     ensures { λ r. ⌜ WithOwner 5 (now (row .entry)) (columnOf number) owner (now (row .exit)) ⌝ }
 {
     let at = layout::wide(number - first(number));
@@ -157,7 +172,7 @@ fn add_owner(row: &mut Owners, number: u32, owner: u32)
 
 // One owner more in a key's row.
 fn add_key_owner(row: &mut KeyOwners, number: u32, owner: u32)
-    requires { ⌜ (length (now row) ≡ 3) × (owner < 64) ⌝ }
+    requires { ⌜ (length (now row) ≡ 3) × (owner < transactionCount) ⌝ }
     ensures { λ r. ⌜ WithKeyOwner (now (row .entry)) number owner (now (row .exit)) ⌝ }
 {
     let at = key_column(number);
@@ -185,8 +200,8 @@ fn blocking(
     book: &[u32],
     i: usize,
     at: usize,
-    whole: &[Owners; 16],
-    same: &[KeyOwners; 256],
+    whole: &[Owners; OBJECTS],
+    same: &[KeyOwners; ENTRIES],
 ) -> Blockers
     requires { ⌜ InLog (now book) i × Representative (now book) i at × Gathered (now book) i (now whole) (now same) ⌝ }
     ensures { λ r. ⌜ Barred (now (book .entry)) i (r .unrecoverable) (r .conflicting) ⌝ }
@@ -201,7 +216,13 @@ fn blocking(
 }
 
 // Entry `i`'s owner is put into the row of its object, and into that of entry `at`, which represents it.
-fn gather(book: &[u32], i: usize, at: usize, whole: &mut [Owners; 16], same: &mut [KeyOwners; 256])
+fn gather(
+    book: &[u32],
+    i: usize,
+    at: usize,
+    whole: &mut [Owners; OBJECTS],
+    same: &mut [KeyOwners; ENTRIES],
+)
     requires { ⌜ InLog (now book) i × Representative (now book) i at × Gathered (now book) i (now whole) (now same) ⌝ }
     ensures { λ r. ⌜ Gathered (now (book .entry)) (i + 1) (now (whole .exit)) (now (same .exit)) ⌝ }
 {
@@ -216,8 +237,8 @@ fn enter(
     book: &[u32],
     i: usize,
     at: usize,
-    whole: &mut [Owners; 16],
-    same: &mut [KeyOwners; 256],
+    whole: &mut [Owners; OBJECTS],
+    same: &mut [KeyOwners; ENTRIES],
 ) -> Blockers
     requires { ⌜ InLog (now book) i × Representative (now book) i at × Gathered (now book) i (now whole) (now same) ⌝ }
     ensures { λ r. ⌜ Entered (now (book .entry)) i (r .unrecoverable) (r .conflicting) (now (whole .exit))
@@ -230,19 +251,24 @@ fn enter(
 
 // Whether each entry is recoverable against every earlier one of another transaction. The sets, empty before, become
 // for each transaction those that it depends on.
-pub fn conflicts(book: &[u32], representatives: &[u16; 256], dependencies: &mut [u64; 64]) -> bool
+pub fn conflicts(
+    book: &[u32],
+    representatives: &[u16; ENTRIES],
+    dependencies: &mut [u64; TRANSACTIONS],
+) -> bool
     requires { ⌜ Packed base (now book) × EntriesLive (decode base (now book)) × EntriesFit (decode base (now book))
-        × Represented (now book) (word (now book) 0) (now representatives) × (now dependencies ≡ replicate 64 0) ⌝ }
-    ensures { λ r. ⌜ ((r ≡ true) ↔ EntriesRecoverable base (decode base (now (book .entry))))
-        × (length (now (dependencies .exit)) ≡ 64)
+        × Represented (now book) (word (now book) 0) (now representatives)
+        × (now dependencies ≡ replicate transactionCount 0) ⌝ }
+    ensures { λ r. ⌜ ((r ≡ true) ↔ EntriesRecoverable (decode base (now (book .entry))))
+        × (length (now (dependencies .exit)) ≡ transactionCount)
         × Represents (now (dependencies .exit)) (DependsOn (decode base (now (book .entry)) .log)) ⌝ }
 {
     let count = layout::entry_count(book);
     if count == 0 {
         return true;
     }
-    let mut whole = [[0u64; 5]; 16];
-    let mut same = [[0u64; 3]; 256];
+    let mut whole = [[0u64; pairs::BROAD]; OBJECTS];
+    let mut same = [[0u64; KEY_COLUMNS]; ENTRIES];
     let mut unrecoverable: u64 = 0;
     for i in 0..count {
         let found = enter(book, i, representatives[i] as usize, &mut whole, &mut same);

@@ -1,8 +1,10 @@
 // How a transaction ends, and who commits then.
+use layout::TRANSACTIONS;
+use statuses::FIRST_RANK;
 ghost use mathlib.Core.Path.{_≡_};
 ghost use Prim.Native.Nat.{_<_, _≤_};
 ghost use lib.ListN.{length};
-ghost use Rattle.store.specs.Store.{Active, pseudoCommittedCount};
+ghost use Rattle.store.specs.Store.{listLength, transactionCount, Active, pseudoCommittedCount};
 ghost use Rattle.store.specs.Layout.{Packed, base, decode, encode};
 ghost use Rattle.store.specs.Soundness.{EntriesFit, Room};
 ghost use Rattle.store.specs.Dependency.{Ready};
@@ -12,14 +14,14 @@ ghost use Rattle.ending.specs.Ending.{Tracked, Forgotten, Concluded};
 
 // Its entries leave the log, and ranks close up.
 fn end(book: &mut [u32], transaction: u32)
-    requires { ⌜ Packed base (now book) × (transaction < 64) ⌝ }
+    requires { ⌜ Packed base (now book) × (transaction < transactionCount) ⌝ }
     ensures { λ r. ⌜ now (book .exit) ≡ encode base (ended transaction (decode base (now (book .entry)))) ⌝ }
 {
     let status = statuses::status_word(book, transaction);
     log::remove(book, transaction);
-    statuses::set_status(book, transaction, 0);
-    if status >= 2 {
-        statuses::close_ranks(book, status - 2);
+    statuses::set_status(book, transaction, statuses::ABSENT);
+    if status >= FIRST_RANK {
+        statuses::close_ranks(book, status - FIRST_RANK);
     }
 }
 
@@ -40,7 +42,7 @@ fn carry_out(book: &mut [u32], transaction: u32)
 }
 
 fn commit(book: &mut [u32], transaction: u32)
-    requires { ⌜ Packed base (now book) × (transaction < 64) × EntriesFit (decode base (now book))
+    requires { ⌜ Packed base (now book) × (transaction < transactionCount) × EntriesFit (decode base (now book))
         × Room base (decode base (now book)) ⌝ }
     ensures { λ r. ⌜ now (book .exit) ≡ encode base (Commit transaction (decode base (now (book .entry)))) ⌝ }
 {
@@ -49,7 +51,7 @@ fn commit(book: &mut [u32], transaction: u32)
 }
 
 // The pseudo-committed one of lowest rank that depends on nobody.
-fn lowest_ready(book: &[u32], edges: &[u64; 64], finished: u64) -> u32
+fn lowest_ready(book: &[u32], edges: &[u64; TRANSACTIONS], finished: u64) -> u32
     requires { ⌜ Tracked (now book) (now edges) finished ⌝ }
     ensures { λ r. ⌜ Names r (lowestReady (decode base (now (book .entry)))) ⌝ }
 {
@@ -59,9 +61,9 @@ fn lowest_ready(book: &[u32], edges: &[u64; 64], finished: u64) -> u32
     while left != 0 {
         let transaction = bitset::lowest(left);
         let status = statuses::status_word(book, transaction);
-        if status - 2 < rank && cycles::ready(edges, transaction) {
+        if status - FIRST_RANK < rank && cycles::ready(edges, transaction) {
             lowest = transaction;
-            rank = status - 2;
+            rank = status - FIRST_RANK;
         }
         left = bitset::without(left, transaction);
     }
@@ -69,18 +71,23 @@ fn lowest_ready(book: &[u32], edges: &[u64; 64], finished: u64) -> u32
 }
 
 // The dependencies become those once a transaction has ended.
-fn forget(edges: &mut [u64; 64], transaction: u32)
-    requires { ⌜ (length (now edges) ≡ 64) × (transaction < 64) ⌝ }
+fn forget(edges: &mut [u64; TRANSACTIONS], transaction: u32)
+    requires { ⌜ (length (now edges) ≡ transactionCount) × (transaction < transactionCount) ⌝ }
     ensures { λ r. ⌜ Forgotten transaction (now (edges .entry)) (now (edges .exit)) ⌝ }
 {
     edges[transaction as usize] = 0;
-    for a in 0..64usize {
+    for a in 0..TRANSACTIONS {
         edges[a] = bitset::without(edges[a], transaction);
     }
 }
 
 // The lowest ready one commits, until none is left. They go to the list's front.
-fn settle(book: &mut [u32], edges: &mut [u64; 64], finished: u64, list: &mut [u8]) -> usize
+fn commit_ready(
+    book: &mut [u32],
+    edges: &mut [u64; TRANSACTIONS],
+    finished: u64,
+    list: &mut [u8],
+) -> usize
     requires { ⌜ Tracked (now book) (now edges) finished
         × (pseudoCommittedCount (decode base (now book)) ≤ length (now list)) ⌝ }
     ensures { λ r. ⌜ Concluded (settledAll (decode base (now (book .entry)))) (now (list .entry))
@@ -106,30 +113,30 @@ fn settle(book: &mut [u32], edges: &mut [u64; 64], finished: u64, list: &mut [u8
 pub fn abort(
     book: &mut [u32],
     transaction: u32,
-    edges: &mut [u64; 64],
+    edges: &mut [u64; TRANSACTIONS],
     finished: u64,
     list: &mut [u8],
 ) -> usize
     requires { ⌜ Tracked (now book) (now edges) finished × Active (decode base (now book)) transaction
-        × (64 ≤ length (now list)) ⌝ }
+        × (listLength ≤ length (now list)) ⌝ }
     ensures { λ r. ⌜ Concluded (settledAll (ended transaction (decode base (now (book .entry))))) (now (list .entry))
         (now (book .exit)) (now (list .exit)) r ⌝ }
 {
     end(book, transaction);
     forget(edges, transaction);
-    settle(book, edges, finished, list)
+    commit_ready(book, edges, finished, list)
 }
 
 // Commits an active transaction that depends on nobody, and then those that do no more.
 pub fn commit_active(
     book: &mut [u32],
     transaction: u32,
-    edges: &mut [u64; 64],
+    edges: &mut [u64; TRANSACTIONS],
     finished: u64,
     list: &mut [u8],
 ) -> usize
     requires { ⌜ Tracked (now book) (now edges) finished × Active (decode base (now book)) transaction
-        × Ready (decode base (now book) .log) transaction × (64 ≤ length (now list)) ⌝ }
+        × Ready (decode base (now book) .log) transaction × (listLength ≤ length (now list)) ⌝ }
     ensures { λ r. ⌜ Concluded
         (committedFirst transaction (settledAll (Commit transaction (decode base (now (book .entry))))))
         (now (list .entry)) (now (book .exit)) (now (list .exit)) r ⌝ }
@@ -137,5 +144,5 @@ pub fn commit_active(
     commit(book, transaction);
     forget(edges, transaction);
     list[0] = transaction as u8;
-    1 + settle(book, edges, finished, &mut list[1..])
+    1 + commit_ready(book, edges, finished, &mut list[1..])
 }

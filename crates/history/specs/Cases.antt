@@ -1,29 +1,33 @@
--- That the history says something: of document 01's whole case, and of one list more, events and history, written out. `Traces` proves that the events are those
--- of the desk.
+-- That the history says something: of document 01's whole case, and of one list more, events and history, written out.
+-- The crate `traces` proves that the events are those of the desk.
 use Prim.Native.Nat.{ℕ}
 use mathlib.Core.Path.{_≡_, refl, ap}
 use mathlib.Core.Bool.{false}
 use mathlib.Core.List.{List, [], _∷_, map}
 use native.Mathlib.Omega.{arith}
 use lib.ListN.{getD, replicate}
-use Rattle.operations.specs.Operations.{Operation, onStack, onSet, onTable, push, pop, top, member, tableInsert, lookup, size, modify, Reply, replied, row, reduceKey, byOrder}
+use Rattle.operations.specs.Operations.{Operation, onStack, onSet, onTable, push, pop, top, member, tableInsert, lookup}
+use Rattle.operations.specs.Operations.{size, modify, Answer, answering, row, reduceKey, byOrder}
 use Rattle.operations.specs.Log.{one}
 use Rattle.store.specs.Store.{Logged}
-use Rattle.protocol.specs.Replies.{Response, ok, answered, wait, finished, committed, circle, cancelled, counted, refused, outcome}
+use Rattle.protocol.specs.Replies.{Reply, ok, answered, wait, finished, committed, circle, cancelled, counted, refused}
+use Rattle.protocol.specs.Replies.{outcome}
 use Rattle.protocol.specs.Call.{Call, setUp, begin, operate, finish, cancel, contents}
 use Rattle.protocol.specs.Laws.Protocol.{clash}
-use Rattle.history.specs.History.{Event, SetUpRefused, Committed, History, history, serial, emptyObjects, answers, committedContents, written, afterDropping, Unaltered}
+use Rattle.history.specs.History.{Event, SetUpRefused, Committed, History, history, serial, emptyObjects, answers}
+use Rattle.history.specs.History.{committedContents, written, afterDropping, Unaltered}
 
 -- A call and its reply, where no list or part is handed back.
-abbrev says : Call → Response → Event
+abbrev says : Call → Reply → Event
 says call reply = record { call = call; outcome = outcome reply [] [] }
 
 -- A call that lends a list, with the list afterwards.
-abbrev lists : Call → Response → List ℕ → Event
+abbrev lists : Call → Reply → List ℕ → Event
 lists call reply list = record { call = call; outcome = outcome reply list [] }
 
-abbrev logged : ℕ → ℕ → Operation → Reply → Logged
-logged t o operation answer = record { object = o; entry = record { transaction = t; operation = operation; answer = answer } }
+abbrev logged : ℕ → ℕ → Operation → Answer → Logged
+logged t o operation answer =
+    record { object = o; entry = record { transaction = t; operation = operation; answer = answer } }
 
 abbrev group : ℕ → List Logged → Committed
 group t operations = record { transaction = t; operations = operations }
@@ -44,13 +48,13 @@ abbrev pub wholeCase : List Event
 wholeCase =
     says (begin 0) ok
     ∷ says (begin 1) ok
-    ∷ says (operate 0 0 1 7 0) (answered (replied 1 0))
-    ∷ says (operate 1 0 1 9 0) (answered (replied 1 0))
+    ∷ says (operate 0 0 1 7 0) (answered (answering 1 0))
+    ∷ says (operate 1 0 1 9 0) (answered (answering 1 0))
     ∷ says (operate 1 0 3 0 0) (wait 0)
     ∷ lists (finish 1 lent) finished lent
     ∷ lists (finish 0 lent) (committed 2) (0 ∷ 1 ∷ replicate 62 0)
     ∷ says (begin 2) ok
-    ∷ says (operate 2 0 2 0 0) (answered (replied 1 9))
+    ∷ says (operate 2 0 2 0 0) (answered (answering 1 9))
     ∷ lists (cancel 2 lent) (cancelled 0) lent
     ∷ []
 
@@ -58,7 +62,8 @@ abbrev pub wholeHistory : History
 wholeHistory =
     record {
       committed =
-          group 0 (logged 0 0 (onStack (push 7)) (replied 1 0) ∷ []) ∷ group 1 (logged 1 0 (onStack (push 9)) (replied 1 0) ∷ []) ∷ [];
+          group 0 (logged 0 0 (onStack (push 7)) (answering 1 0) ∷ [])
+          ∷ group 1 (logged 1 0 (onStack (push 9)) (answering 1 0) ∷ []) ∷ [];
       live = [];
       answered = [];
     }
@@ -69,8 +74,9 @@ pub whole-case : (history reduceKey wholeCase ≡ wholeHistory)
 unfolding reduceKey byOrder
 whole-case = (refl, refl, refl)
 
--- ---- A wait, a circle and a cancel that commit others, numbers used again, refusals, lists of more than 64 bytes, contents beside live transactions, keys with a
--- maker's mark and an item above them, and a transaction that commits without operations
+-- ---- A wait, a circle and a cancel that commit others, numbers used again, refusals, lists of more than 64 bytes,
+-- contents beside live transactions, keys with a maker's mark and an item above them, and a transaction that commits
+-- without operations
 
 -- The second time, transaction 0 begins before transaction 1, has the lower number, and commits after it.
 
@@ -85,32 +91,32 @@ twiceUsed =
     says (setUp (1 ∷ 4 ∷ [])) (refused 3)
     ∷ says (begin 0) ok
     ∷ says (begin 1) ok
-    ∷ says (operate 0 0 1 5 0) (answered (replied 1 0))
-    ∷ says (operate 1 0 1 6 0) (answered (replied 1 0))
-    ∷ says (operate 1 1 1 7 0) (answered (replied 1 0))
-    ∷ says (operate 0 1 1 8 0) (answered (replied 1 0))
+    ∷ says (operate 0 0 1 5 0) (answered (answering 1 0))
+    ∷ says (operate 1 0 1 6 0) (answered (answering 1 0))
+    ∷ says (operate 1 1 1 7 0) (answered (answering 1 0))
+    ∷ says (operate 0 1 1 8 0) (answered (answering 1 0))
     ∷ says (operate 0 0 3 0 0) (wait 1)
-    ∷ says (operate 1 3 7 16_777_221 3) (answered (replied 1 0))
-    ∷ says (operate 1 3 9 5 0) (answered (replied 1 3))
+    ∷ says (operate 1 3 7 16_777_221 3) (answered (answering 1 0))
+    ∷ says (operate 1 3 9 5 0) (answered (answering 1 3))
     ∷ lists (finish 0 long) finished long
     ∷ lists (finish 1 long) (circle 1) (0 ∷ replicate 69 255)
     ∷ says (begin 0) ok
     ∷ says (begin 1) ok
-    ∷ says (operate 1 3 9 5 0) (answered (replied 0 0))
-    ∷ says (operate 1 0 3 0 0) (answered (replied 1 5))
-    ∷ says (operate 1 0 1 10 0) (answered (replied 1 0))
-    ∷ says (operate 0 0 1 11 0) (answered (replied 1 0))
-    ∷ says (operate 0 3 7 33_554_441 4) (answered (replied 1 0))
-    ∷ says (operate 0 3 10 0 0) (answered (replied 1 1))
-    ∷ says (operate 0 3 11 9 6) (answered (replied 1 0))
-    ∷ says (operate 0 2 6 3 0) (answered (replied 0 0))
+    ∷ says (operate 1 3 9 5 0) (answered (answering 0 0))
+    ∷ says (operate 1 0 3 0 0) (answered (answering 1 5))
+    ∷ says (operate 1 0 1 10 0) (answered (answering 1 0))
+    ∷ says (operate 0 0 1 11 0) (answered (answering 1 0))
+    ∷ says (operate 0 3 7 33_554_441 4) (answered (answering 1 0))
+    ∷ says (operate 0 3 10 0 0) (answered (answering 1 1))
+    ∷ says (operate 0 3 11 9 6) (answered (answering 1 0))
+    ∷ says (operate 0 2 6 3 0) (answered (answering 0 0))
     ∷ lists (finish 0 lent) finished lent
     ∷ lists (finish 1 lent) (committed 2) (1 ∷ 0 ∷ replicate 62 0)
     ∷ says (contents 4) (refused 8)
     ∷ says (begin 2) ok
-    ∷ says (operate 2 0 2 0 0) (answered (replied 1 11))
+    ∷ says (operate 2 0 2 0 0) (answered (answering 1 11))
     ∷ says (begin 3) ok
-    ∷ says (operate 3 0 1 16_777_228 0) (answered (replied 1 0))
+    ∷ says (operate 3 0 1 16_777_228 0) (answered (answering 1 0))
     ∷ record { call = contents 3; outcome = outcome (counted 1) [] (9 ∷ 6 ∷ []) }
     ∷ lists (cancel 3 []) (refused 2) []
     ∷ lists (finish 3 lent) finished lent
@@ -120,33 +126,33 @@ twiceUsed =
     ∷ says (begin 0) ok
     ∷ lists (cancel 0 lent) (cancelled 0) lent
     ∷ says (begin 2) ok
-    ∷ says (operate 2 0 2 0 0) (answered (replied 1 16_777_228))
+    ∷ says (operate 2 0 2 0 0) (answered (answering 1 16_777_228))
     ∷ []
 
 abbrev pub twiceHistory : History
 twiceHistory =
     record {
       committed =
-          group 0 (logged 0 0 (onStack (push 5)) (replied 1 0) ∷ logged 0 1 (onStack (push 8)) (replied 1 0) ∷ [])
+          group 0 (logged 0 0 (onStack (push 5)) (answering 1 0) ∷ logged 0 1 (onStack (push 8)) (answering 1 0) ∷ [])
           ∷ group 1 (
-          logged 1 3 (onTable (lookup 5)) (replied 0 0)
-          ∷ logged 1 0 (onStack top) (replied 1 5)
-          ∷ logged 1 0 (onStack (push 10)) (replied 1 0)
+          logged 1 3 (onTable (lookup 5)) (answering 0 0)
+          ∷ logged 1 0 (onStack top) (answering 1 5)
+          ∷ logged 1 0 (onStack (push 10)) (answering 1 0)
           ∷ []
           )
           ∷ group 0 (
-          logged 0 0 (onStack (push 11)) (replied 1 0)
-          ∷ logged 0 3 (onTable (tableInsert 9 4)) (replied 1 0)
-          ∷ logged 0 3 (onTable size) (replied 1 1)
-          ∷ logged 0 3 (onTable (modify 9 6)) (replied 1 0)
-          ∷ logged 0 2 (onSet (member 3)) (replied 0 0)
+          logged 0 0 (onStack (push 11)) (answering 1 0)
+          ∷ logged 0 3 (onTable (tableInsert 9 4)) (answering 1 0)
+          ∷ logged 0 3 (onTable size) (answering 1 1)
+          ∷ logged 0 3 (onTable (modify 9 6)) (answering 1 0)
+          ∷ logged 0 2 (onSet (member 3)) (answering 0 0)
           ∷ []
           )
-          ∷ group 3 (logged 3 0 (onStack (push 16_777_228)) (replied 1 0) ∷ [])
+          ∷ group 3 (logged 3 0 (onStack (push 16_777_228)) (answering 1 0) ∷ [])
           ∷ group 0 []
           ∷ [];
       live = 2 ∷ [];
-      answered = logged 2 0 (onStack pop) (replied 1 16_777_228) ∷ [];
+      answered = logged 2 0 (onStack pop) (answering 1 16_777_228) ∷ [];
     }
 
 pub twice-used : (history reduceKey twiceUsed ≡ twiceHistory)
@@ -160,22 +166,24 @@ twice-used = (refl, refl, refl, refl, refl)
 
 -- ---- Serving can belie an answer
 
--- A top that was answered past another transaction's push gets another value where that one is dropped. What its number committed before stays.
+-- A top that was answered past another transaction's push gets another value where that one is dropped. What its number
+-- committed before stays.
 abbrev past : History
 past =
     record {
-      committed = group 0 (logged 0 0 (onStack (push 4)) (replied 1 0) ∷ []) ∷ [];
+      committed = group 0 (logged 0 0 (onStack (push 4)) (answering 1 0) ∷ []) ∷ [];
       live = 1 ∷ 0 ∷ [];
-      answered = logged 0 0 (onStack (push 5)) (replied 1 0) ∷ logged 1 0 (onStack top) (replied 1 5) ∷ [];
+      answered = logged 0 0 (onStack (push 5)) (answering 1 0) ∷ logged 1 0 (onStack top) (answering 1 5) ∷ [];
     }
 
 pub belied : Unaltered (afterDropping (λ t. false) past)
-    × (answers (afterDropping (one 0) past) emptyObjects ≡ replied 1 0 ∷ replied 1 4 ∷ [])
+    × (answers (afterDropping (one 0) past) emptyObjects ≡ answering 1 0 ∷ answering 1 4 ∷ [])
     × (Unaltered (afterDropping (one 0) past) → ⊥)
-belied = (refl, refl, λ e. omega (arith, ap (λ (l : List Reply). getD l 1 (replied 0 0) .value) e))
+belied = (refl, refl, λ e. omega (arith, ap (λ (l : List Answer). getD l 1 (answering 0 0) .value) e))
 
 -- ---- Which lists the theorem is about
 
 -- A begin may stand in the list, and so may a set up that is refused, but none that is accepted.
-pub set-ups : SetUpRefused (says (begin 0) ok) × SetUpRefused (says (setUp (1 ∷ 4 ∷ [])) (refused 3)) × (SetUpRefused (says (setUp wholeKinds) ok) → ⊥)
+pub set-ups : SetUpRefused (says (begin 0) ok) × SetUpRefused (says (setUp (1 ∷ 4 ∷ [])) (refused 3))
+    × (SetUpRefused (says (setUp wholeKinds) ok) → ⊥)
 set-ups = (λ kinds e. clash cc, λ kinds e. (3, refl), λ p. let e = p wholeKinds refl .1 in clash cc)

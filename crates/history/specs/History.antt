@@ -1,20 +1,22 @@
--- Document 01, "The serial history", sentence by sentence: lists of calls, the plain desk that keeps the history, and serving it.
+-- Document 01, "The serial history", sentence by sentence: lists of calls, the plain desk that keeps the history, and
+-- serving it.
 use Prim.Native.Nat.{ℕ}
 use mathlib.Core.Path.{_≡_}
 use mathlib.Core.Bool.{Bool, cond}
 use mathlib.Core.List.{List, [], _∷_, _++_, map}
 use lib.Dec.{eqb}
 use lib.ListN.{length, take}
-use Rattle.operations.specs.Operations.{Row, Reply, stored, next, reply}
+use Rattle.operations.specs.Operations.{Row, Answer, stored, next, answer}
 use Rattle.operations.specs.Log.{filter, one, others}
 use Rattle.store.specs.Store.{Logged, operationsOf}
 use Rattle.store.specs.Layout.{orPop, joined, rowWords}
-use Rattle.protocol.specs.Replies.{Response, ok, answered, wait, finished, committed, circle, cancelled, counted, refused, Outcome, outcome, Served}
+use Rattle.protocol.specs.Replies.{Reply, ok, answered, wait, finished, committed, circle, cancelled, counted, refused}
+use Rattle.protocol.specs.Replies.{Outcome, outcome, Served}
 use Rattle.protocol.specs.Call.{Call, setUp, begin, operate, finish, cancel, contents}
 
 -- ---- Lists of calls
 
--- A call, with any arguments, and what it replied and handed back.
+-- A call, with any arguments, and what it answering and handed back.
 pub record Event : Type 0 where
   pub call : Call
   pub outcome : Outcome
@@ -37,14 +39,14 @@ SetUpRefused e = (kinds : List ℕ) → e .call ≡ setUp kinds → (reason : �
 
 -- ---- The plain desk, fed calls and outcomes, and nothing else of the book
 
--- A transaction (handout) that has committed, with its answered operations in the order answered. `Logged` is an operation with its object, its
--- transaction and its answer.
+-- A transaction (handout) that has committed, with its answered operations in the order answered. `Logged` is an
+-- operation with its object, its transaction and its answer.
 pub record Committed : Type 0 where
   pub transaction : ℕ
   pub operations : List Logged
 
--- The committed transactions in commit order; the live ones, in the order begun; and the answered operations of live ones, in the order answered. Committed
--- operations stand apart, so that a number used again is a new transaction.
+-- The committed transactions in commit order; the live ones, in the order begun; and the answered operations of live
+-- ones, in the order answered. Committed operations stand apart, so that a number used again is a new transaction.
 pub record History : Type 0 where
   pub committed : List Committed
   pub live : List ℕ
@@ -53,7 +55,8 @@ pub record History : Type 0 where
 abbrev pub newHistory : History
 newHistory = record { committed = []; live = []; answered = [] }
 
--- "A begin not refused makes a live handout with no operations." A number used again finds none: they left with the transaction that ended.
+-- "A begin not refused makes a live handout with no operations." A number used again finds none: they left with the
+-- transaction that ended.
 abbrev pub begun : Call → History → History
 begun (setUp kinds) h = h
 begun (begin t) h = record { committed = h .committed; live = h .live ++ (t ∷ []); answered = h .answered }
@@ -62,13 +65,16 @@ begun (finish t list) h = h
 begun (cancel t list) h = h
 begun (contents o) h = h
 
--- "A reply that answers an operation puts it last among the answered ones, with its handout, its key as reduced at the call that asked for it, and its
--- answer." Its number names an operation: otherwise the call was refused with 9.
-abbrev pub entered : (ℕ → ℕ) → Call → Reply → History → History
+-- "A reply that answers an operation puts it last among the answered ones, with its handout, its key as reduced at the
+-- call that asked for it, and its answer." Its number names an operation: otherwise the call was refused with 9.
+abbrev pub entered : (ℕ → ℕ) → Call → Answer → History → History
 entered reduce (setUp kinds) a h = h
 entered reduce (begin t) a h = h
 entered reduce (operate t o number k v) a h =
-    let l : Logged = record { object = o; entry = record { transaction = t; operation = orPop (stored reduce number k v); answer = a } } in
+    let l : Logged = record {
+      object = o;
+      entry = record { transaction = t; operation = orPop (stored reduce number k v); answer = a };
+    } in
     record { committed = h .committed; live = h .live; answered = h .answered ++ (l ∷ []) }
 entered reduce (finish t list) a h = h
 entered reduce (cancel t list) a h = h
@@ -77,7 +83,11 @@ entered reduce (contents o) a h = h
 -- A transaction that is live no more, with its operations struck out.
 abbrev pub struck : ℕ → History → History
 struck t h =
-    record { committed = h .committed; live = filter (others (one t)) (h .live); answered = operationsOf (others (one t)) (h .answered) }
+    record {
+      committed = h .committed;
+      live = filter (others (one t)) (h .live);
+      answered = operationsOf (others (one t)) (h .answered);
+    }
 
 -- One commits: it comes next, with its operations, and is live no more.
 abbrev pub committedNext : ℕ → History → History
@@ -89,7 +99,8 @@ committedNext t h =
       answered = rest .answered;
     }
 
--- "The handouts a reply names as committed, at the front of the list up to the count, come next in commit order and are live no more."
+-- "The handouts a reply names as committed, at the front of the list up to the count, come next in commit order and are
+-- live no more."
 abbrev pub committedInOrder : List ℕ → History → History
 committedInOrder [] h = h
 committedInOrder (t ∷ ts) h = committedInOrder ts (committedNext t h)
@@ -105,7 +116,7 @@ aborted (contents o) h = h
 
 module _ (reduce : ℕ → ℕ) where
   -- What each reply changes. "*Wait*, *finished*, contents and refusals change nothing."
-  abbrev pub noted : Call → Response → List ℕ → History → History
+  abbrev pub noted : Call → Reply → List ℕ → History → History
   noted call ok list h = begun call h
   noted call (answered a) list h = entered reduce call a h
   noted call (wait owner) list h = h
@@ -131,7 +142,8 @@ abbrev pub serial : List Committed → List Logged
 serial [] = []
 serial (c ∷ l) = c .operations ++ serial l
 
--- Each object's rows, "without limits". Kinds aren't kept: each operation is one of its object's kind as set up (`of-their-kinds` in `Theorems`).
+-- Each object's rows, "without limits". Kinds aren't kept: each operation is one of its object's kind as set up
+-- (`of-their-kinds` in `Theorems`).
 abbrev pub Contents : Type 0
 Contents = ℕ → List Row
 
@@ -149,12 +161,12 @@ reached [] rows = rows
 reached (l ∷ ls) rows = reached ls (changed l rows)
 
 -- the answer that each gets then,
-abbrev pub answers : List Logged → Contents → List Reply
+abbrev pub answers : List Logged → Contents → List Answer
 answers [] rows = []
-answers (l ∷ ls) rows = reply (l .entry .operation) (rows (l .object)) ∷ answers ls (changed l rows)
+answers (l ∷ ls) rows = answer (l .entry .operation) (rows (l .object)) ∷ answers ls (changed l rows)
 
 -- and the answer that each was given.
-abbrev pub given : List Logged → List Reply
+abbrev pub given : List Logged → List Answer
 given = map (λ (l : Logged). l .entry .answer)
 
 -- The contents that the committed transactions reach, served alone.
@@ -167,8 +179,9 @@ written rows = outcome (counted (length rows)) [] (joined rowWords rows)
 
 -- ---- Dropping
 
--- "To drop a set of live handouts, open or finished, is to leave out what they did: once the committed are served, the operations of the other live
--- handouts follow, all in the order answered." A number in the set that isn't live changes nothing (`live-part`).
+-- "To drop a set of live handouts, open or finished, is to leave out what they did: once the committed are served, the
+-- operations of the other live handouts follow, all in the order answered." A number in the set that isn't live changes
+-- nothing (`live-part`).
 abbrev pub afterDropping : (ℕ → Bool) → History → List Logged
 afterDropping dropped h = serial (h .committed) ++ operationsOf (others dropped) (h .answered)
 

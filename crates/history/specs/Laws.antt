@@ -2,4 +2,3 @@ pub mod Serving
 pub mod Linking
 pub mod Steps
 pub mod Consequences
-pub mod Computing

@@ -2,4 +2,3 @@ pub mod History
 pub mod Cases
 pub mod Laws
 pub mod Theorems
-pub mod Traces

@@ -58,7 +58,8 @@ seen-next w i seen s =
     }
   where
     below : (j : ℕ) → j < i + 1 → (j ≡ i → ⊥) → j < i
-    below j l q = split (ltb j i) (ltb-true j i) (λ (e : ltb j i ≡ false). let m = ltb-false j i e in absurd (q (omega arith)))
+    below j l q =
+        split (ltb j i) (ltb-true j i) (λ (e : ltb j i ≡ false). let m = ltb-false j i e in absurd (q (omega arith)))
 
 pub seen-all : (w : List ℕ) (i seen : ℕ) → length w ≤ i → Seen w i seen → (eqb seen 0 ≡ true) ↔ ((j : ℕ) → word w j ≡ 0)
 seen-all w i seen l s = (
@@ -80,7 +81,8 @@ Copied w copy i = rowsOf copy i ≡ tabulate i (rowIn w)
 pub copied-start : (w : List ℕ) (copy : List (List ℕ)) → Copied w copy 0
 copied-start w copy = sym (tabulate-zero (rowIn w))
 
-pub copied-next : (w : List ℕ) (i : ℕ) (copy : List (List ℕ)) (pair : List ℕ) → i < length copy → rowOf pair ≡ rowIn w i → Copied w copy i
+pub copied-next : (w : List ℕ) (i : ℕ) (copy : List (List ℕ)) (pair : List ℕ) → i < length copy
+    → rowOf pair ≡ rowIn w i → Copied w copy i
     → Copied w (set copy i pair) (i + 1)
 copied-next w i copy pair l e c =
     rw (add-one i)
@@ -95,13 +97,17 @@ pub tail-part : (w : List ℕ) (a : ℕ) → take (length w - a) (drop a w) ≡ 
 tail-part w a = take-all (length w - a) (drop a w) (rw length-drop (omega arith))
 
 -- An object's rows begin the part that starts at its first row.
-pub rows-from : (w : List ℕ) (o n : ℕ) → tabulate n (rowIn (drop (objectStart o + 2) w)) ≡ tabulate n (rowAt w o)
+rows-from : (w : List ℕ) (o n : ℕ) → tabulate n (rowIn (drop (objectStart o + 2) w)) ≡ tabulate n (rowAt w o)
 rows-from w o n =
-    tabulate-same n (rowIn (drop (objectStart o + 2) w)) (rowAt w o) (λ i l. ap₂ row (at (2 * i)) (at (2 * i + 1) ∙ ap (word w) (omega arith)))
+    tabulate-same n (rowIn (drop (objectStart o + 2) w)) (rowAt w o)
+    (λ i l. ap₂ row (at (2 * i)) (at (2 * i + 1) ∙ ap (word w) (omega arith)))
   where
     at : (i : ℕ) → word (drop (objectStart o + 2) w) i ≡ word w (objectStart o + 2 + i)
     at i = getD-drop (objectStart o + 2) w i 0
 
 pub rows-copied : (w : List ℕ) (o n : ℕ) (copy : List (List ℕ)) → n ≡ word w (objectStart o + 1)
-    → Copied (take (length w - (objectStart o + 2)) (drop (objectStart o + 2) w)) copy n → rowsOf copy (word w (objectStart o + 1)) ≡ rowsAt w o
-rows-copied w o n copy count c = rw (← count) (c ∙ ap (λ (part : List ℕ). tabulate n (rowIn part)) (tail-part w (objectStart o + 2)) ∙ rows-from w o n)
+    → Copied (take (length w - (objectStart o + 2)) (drop (objectStart o + 2) w)) copy n
+    → rowsOf copy (word w (objectStart o + 1)) ≡ rowsAt w o
+rows-copied w o n copy count c =
+    rw (← count)
+    (c ∙ ap (λ (part : List ℕ). tabulate n (rowIn part)) (tail-part w (objectStart o + 2)) ∙ rows-from w o n)

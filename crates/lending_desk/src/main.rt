@@ -1,4 +1,5 @@
-// The script program: serves a script from standard input on standard output, from a book of zeros. It only moves bytes.
+// The script program: serves a script from standard input on standard output, from a book of zeros. It only moves
+// bytes.
 use libc::EINTR;
 use libc::STDIN_FILENO;
 use libc::STDOUT_FILENO;
@@ -60,7 +61,7 @@ fn serve_some(
     }
     if got == 0 {
         let begun = *kept;
-        let written = script::close(book, &line[..begun], out);
+        let written = script::end_input(book, &line[..begun], out);
         print(&out[..written]);
         return false;
     }
@@ -68,7 +69,8 @@ fn serve_some(
     serve_block(book, line, kept, &input[..n], out)
 }
 
-// A proved loop has to end, and nothing says that the input does: the loop counts its turns down from a number that no run uses up.
+// A proved loop has to end, and nothing says that the input does: the loop counts its turns down from a number that no
+// run uses up.
 fn serve(book: &mut [u32], line: &mut [u8], input: &mut [u8], out: &mut [u8])
     requires { ⌜ (length (now line) ≡ 178) × (266 ≤ length (now out)) ⌝ }
 {
@@ -80,7 +82,7 @@ fn serve(book: &mut [u32], line: &mut [u8], input: &mut [u8], out: &mut [u8])
 }
 
 fn main() {
-    let mut book = [0u32; 3937];
+    let mut book = [0u32; layout::WORDS];
     let mut line = [0u8; script::LINE];
     let mut input = io::large_buffer();
     let mut out = io::large_buffer();

@@ -1,5 +1,5 @@
 pub mod Lines
-pub mod Requests
+pub mod Coded
 pub mod Samples
 pub mod Theorems
 pub mod Laws

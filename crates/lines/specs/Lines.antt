@@ -6,13 +6,14 @@ use mathlib.Core.Option.{Option, none, some}
 use mathlib.Core.List.{List, [], _∷_, _++_}
 use lib.Dec.{eqb, leb}
 use lib.ListN.{length, getD, replicate}
+use Rattle.store.specs.Store.{objectCount, listLength}
 use Rattle.protocol.specs.Calls.{someAbove}
 use Rattle.protocol.specs.Call.{Call, setUp, begin, operate, finish, cancel}
 use Rattle.text.specs.Text.{split, numberIn}
 
 -- The list that finish and cancel are lent.
 abbrev pub lent : List ℕ
-lent = replicate 64 0
+lent = replicate listLength 0
 
 abbrev pub withFirst : Option ℕ → Option (List ℕ) → Option (List ℕ)
 withFirst none numbers = none
@@ -31,7 +32,8 @@ withCount n arguments call = cond (eqb (length arguments) n) (some call) none
 -- Up to 16 kinds, each at most 255; missing ones are 0.
 abbrev pub setUpOf : List ℕ → Option Call
 setUpOf kinds =
-    cond (leb (length kinds) 16 && not (someAbove 255 kinds)) (some (setUp (kinds ++ replicate (16 - length kinds) 0))) none
+    cond (leb (length kinds) objectCount && not (someAbove 255 kinds))
+    (some (setUp (kinds ++ replicate (objectCount - length kinds) 0))) none
 
 -- The call of a letter, with these arguments.
 abbrev pub asked : ℕ → List ℕ → Option Call
@@ -39,7 +41,8 @@ asked letter arguments =
     let argument : ℕ → ℕ = λ i. getD arguments i 0 in
     cond (eqb letter (code "S")) (setUpOf arguments)
     (cond (eqb letter (code "B")) (withCount 1 arguments (begin (argument 0)))
-    (cond (eqb letter (code "I")) (withCount 5 arguments (operate (argument 0) (argument 1) (argument 2) (argument 3) (argument 4)))
+    (cond (eqb letter (code "I"))
+    (withCount 5 arguments (operate (argument 0) (argument 1) (argument 2) (argument 3) (argument 4)))
     (cond (eqb letter (code "F")) (withCount 1 arguments (finish (argument 0) lent))
     (cond (eqb letter (code "C")) (withCount 1 arguments (cancel (argument 0) lent))
     none))))
@@ -49,12 +52,12 @@ askedWith letter none = none
 askedWith letter (some arguments) = asked letter arguments
 
 -- The first field is a letter alone, the others are numbers.
-abbrev pub callOf : List (List ℕ) → Option Call
-callOf [] = none
-callOf ([] ∷ fields) = none
-callOf ((letter ∷ []) ∷ fields) = askedWith letter (numbersIn fields)
-callOf ((letter ∷ b ∷ word) ∷ fields) = none
+abbrev pub callOfFields : List (List ℕ) → Option Call
+callOfFields [] = none
+callOfFields ([] ∷ fields) = none
+callOfFields ((letter ∷ []) ∷ fields) = askedWith letter (numbersIn fields)
+callOfFields ((letter ∷ b ∷ word) ∷ fields) = none
 
 -- The call that a line, without its line feed, stands for. One space stands between fields.
 unfoldable pub callIn : List ℕ → Option Call
-callIn line = callOf (split (code " ") line)
+callIn line = callOfFields (split (code " ") line)

@@ -19,7 +19,8 @@ readWith line b = callIn (ascii line ++ (b ∷ []))
 -- Each call, with as few and as many fields and digits as it takes.
 pub calls : (read "S" ≡ some (setUp (replicate 16 0)))
     × (read "S 1 2 3" ≡ some (setUp (1 ∷ 2 ∷ 3 ∷ replicate 13 0)))
-    × (read "S 1 2 3 4 5 6 7 8 9 10 11 12 13 14 15 16" ≡ some (setUp (1 ∷ 2 ∷ 3 ∷ 4 ∷ 5 ∷ 6 ∷ 7 ∷ 8 ∷ 9 ∷ 10 ∷ 11 ∷ 12 ∷ 13 ∷ 14 ∷ 15 ∷ 16 ∷ [])))
+    × (read "S 1 2 3 4 5 6 7 8 9 10 11 12 13 14 15 16"
+    ≡ some (setUp (1 ∷ 2 ∷ 3 ∷ 4 ∷ 5 ∷ 6 ∷ 7 ∷ 8 ∷ 9 ∷ 10 ∷ 11 ∷ 12 ∷ 13 ∷ 14 ∷ 15 ∷ 16 ∷ [])))
     × (read "S 255" ≡ some (setUp (255 ∷ replicate 15 0)))
     × (read "S 0000000255" ≡ some (setUp (255 ∷ replicate 15 0)))
     × (read "B 0" ≡ some (begin 0))

@@ -33,7 +33,8 @@ front-enough line =
     cases (ltb 178 (length line))
     (λ e.
     let long : 178 < length line = ltb-true 178 (length line) e in
-    no-long-call (take 178 line) (omega (arith, length-take-le 178 line (omega arith))) ∙ sym (no-long-call line (omega arith)))
+    no-long-call (take 178 line) (omega (arith, length-take-le 178 line (omega arith)))
+    ∙ sym (no-long-call line (omega arith)))
     (λ e. ap callIn (take-all 178 line (ltb-false 178 (length line) e)))
 
 -- No line asks for contents.

@@ -1,14 +1,15 @@
 // A line of a script, read as a call.
+use layout::OBJECTS;
 use text::Number;
 ghost use mathlib.Core.Path.{_≡_};
 ghost use mathlib.Core.List.{List};
 ghost use Prim.Native.Nat.{ℕ, _≤_};
 ghost use lib.ListN.{length, take, drop};
 ghost use Rattle.lines.specs.Lines.{asked, setUpOf, callIn};
-ghost use Rattle.lines.specs.Requests.{requested, argumentsOf, few, behind};
+ghost use Rattle.lines.specs.Coded.{callOf, argumentsOf, few, behind};
 
 // What a line asks for. The kinds of a set up stand beside it.
-pub enum Request {
+pub enum Call {
     SetUp,
     Begin(u32),
     // transaction, object, operation, key or item, value
@@ -19,27 +20,31 @@ pub enum Request {
 }
 
 pub struct Line {
-    pub request: Request,
-    pub kinds: [u8; 16],
+    pub call: Call,
+    pub kinds: [u8; OBJECTS],
 }
 
-// A call's arguments, at most 16.
-pub struct Arguments {
-    pub read: bool,
-    pub count: usize,
-    pub values: [u32; 16],
+// A call's arguments.
+struct Arguments {
+    read: bool,
+    count: usize,
+    values: [u32; MOST_ARGUMENTS],
 }
 
-const MOST_ARGUMENTS: usize = 16;
+// Set up has the most: a kind for each object.
+const MOST_ARGUMENTS: usize = OBJECTS;
+
+// A kind is a byte.
+const LARGEST_KIND: u32 = u8::MAX as u32;
 
 const SPACE: u8 = b' ';
 
 fn unread() -> Line
-    ensures { λ r. ⌜ r .request ≡ Request.Unread ⌝ }
+    ensures { λ r. ⌜ r .call ≡ Call.Unread ⌝ }
 {
     Line {
-        request: Request::Unread,
-        kinds: [0; 16],
+        call: Call::Unread,
+        kinds: [0; OBJECTS],
     }
 }
 
@@ -48,7 +53,7 @@ fn read_arguments(line: &[u8]) -> Arguments
     requires { ⌜ 1 ≤ length (now line) ⌝ }
     ensures { λ r. ⌜ (argumentsOf r ≡ few (behind (drop 1 (now (line .entry))))) × (r .count ≤ 16) ⌝ }
 {
-    let mut values = [0u32; 16];
+    let mut values = [0u32; MOST_ARGUMENTS];
     let mut count: usize = 0;
     let mut at: usize = 1;
     while at < line.len() {
@@ -80,46 +85,46 @@ fn read_arguments(line: &[u8]) -> Arguments
 }
 
 // A set up of these kinds, the missing ones 0.
-fn set_up(count: usize, values: [u32; 16]) -> Line
+fn set_up(count: usize, values: [u32; MOST_ARGUMENTS]) -> Line
     requires { ⌜ count ≤ 16 ⌝ }
-    ensures { λ r. ⌜ requested (r .request) (r .kinds) ≡ setUpOf (take count values) ⌝ }
+    ensures { λ r. ⌜ callOf (r .call) (r .kinds) ≡ setUpOf (take count values) ⌝ }
 {
-    let mut kinds = [0u8; 16];
+    let mut kinds = [0u8; OBJECTS];
     for i in 0..count {
         let kind = values[i];
-        if 255 < kind {
+        if LARGEST_KIND < kind {
             return unread();
         }
         kinds[i] = kind as u8;
     }
     Line {
-        request: Request::SetUp,
+        call: Call::SetUp,
         kinds,
     }
 }
 
 // Any other call. It needs no kinds.
-fn request_of(letter: u8, count: usize, values: [u32; 16]) -> Request
+fn call_of(letter: u8, count: usize, values: [u32; MOST_ARGUMENTS]) -> Call
     requires { ⌜ (count ≤ 16) × (letter ≡ 83 → ⊥) ⌝ }
-    ensures { λ r. ⌜ ((kinds : List ℕ) → requested r kinds ≡ asked letter (take count values)) ⌝ }
+    ensures { λ r. ⌜ ((kinds : List ℕ) → callOf r kinds ≡ asked letter (take count values)) ⌝ }
 {
     if letter == b'I' && count == 5 {
-        return Request::Operate(values[0], values[1], values[2], values[3], values[4]);
+        return Call::Operate(values[0], values[1], values[2], values[3], values[4]);
     }
     if count != 1 {
-        return Request::Unread;
+        return Call::Unread;
     }
     let transaction = values[0];
     match letter {
-        b'B' => Request::Begin(transaction),
-        b'F' => Request::Finish(transaction),
-        b'C' => Request::Cancel(transaction),
-        _ => Request::Unread,
+        b'B' => Call::Begin(transaction),
+        b'F' => Call::Finish(transaction),
+        b'C' => Call::Cancel(transaction),
+        _ => Call::Unread,
     }
 }
 
 pub fn read_line(line: &[u8]) -> Line
-    ensures { λ r. ⌜ requested (r .request) (r .kinds) ≡ callIn (now (line .entry)) ⌝ }
+    ensures { λ r. ⌜ callOf (r .call) (r .kinds) ≡ callIn (now (line .entry)) ⌝ }
 {
     if line.len() == 0 {
         return unread();
@@ -135,7 +140,7 @@ pub fn read_line(line: &[u8]) -> Line
         return set_up(count, values);
     }
     Line {
-        request: request_of(letter, count, values),
-        kinds: [0; 16],
+        call: call_of(letter, count, values),
+        kinds: [0; OBJECTS],
     }
 }

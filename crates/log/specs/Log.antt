@@ -1,15 +1,13 @@
 -- What the functions of the log say of the book's words.
 use Prim.Native.Nat.{ℕ, _+_, _≤_, _<_}
 use mathlib.Core.Path.{_≡_}
-use mathlib.Core.Bool.{cond}
 use mathlib.Core.Option.{some}
 use mathlib.Core.List.{List, [], _∷_}
-use lib.Dec.{ltb}
 use lib.ListN.{length}
 use lib.Seq.{sets}
 use Rattle.operations.specs.Operations as model
 use Rattle.operations.specs.declared.Operation.{Operation}
-use Rattle.operations.specs.declared.Reply.{Reply}
+use Rattle.operations.specs.declared.Answer.{Answer}
 use Rattle.store.specs.Store.{Logged, Live, objectOf}
 use Rattle.store.specs.Layout.{base, decode, joined, tabulate, word, orPop, entryStart, entryWords, entryAt}
 use Rattle.store.specs.Layout.{operationAt, AsStored}
@@ -27,10 +25,6 @@ pub record LogBounded (w : List ℕ) : Type 0 where
   pub entries : word w 0 ≤ 256
   pub unused : (i : ℕ) → entryStart (word w 0) ≤ i → word w i ≡ 0
 
--- The kind's word, by an operation's number.
-abbrev pub kindBy : ℕ → ℕ
-kindBy number = cond (ltb number 4) 1 (cond (ltb number 7) 2 3)
-
 -- Entry i belongs to a live transaction,
 abbrev pub EntryLive : List ℕ → ℕ → Type 0
 EntryLive w i = Live (decode base w) (word w (entryStart i))
@@ -40,12 +34,12 @@ abbrev pub EntryOfKind : List ℕ → ℕ → Type 0
 EntryOfKind w i = objectOf (decode base w) (word w (entryStart i + 1)) .kind ≡ some (model.kindOf (operationAt w i))
 
 -- and its key is reduced.
-abbrev pub KeyReduced : List ℕ → ℕ → Type 0
-KeyReduced w i = model.StoredKey model.reduceKey (operationAt w i)
+abbrev pub EntryKeyReduced : List ℕ → ℕ → Type 0
+EntryKeyReduced w i = model.StoredKey model.reduceKey (operationAt w i)
 
 -- All that soundness asks of entry i alone.
-abbrev pub EntryFits : List ℕ → ℕ → Type 0
-EntryFits w i = AsStored w i × EntryLive w i × EntryOfKind w i × KeyReduced w i
+abbrev pub EntryAdmitted : List ℕ → ℕ → Type 0
+EntryAdmitted w i = AsStored w i × EntryLive w i × EntryOfKind w i × EntryKeyReduced w i
 
 -- The same of every entry, in the words of soundness.
 pub record LogFits (w : List ℕ) : Type 0 where
@@ -59,13 +53,13 @@ abbrev pub StoredAs : Operation → model.Operation → Type 0
 StoredAs operation o =
     (operation .number ≡ model.numberOf o) × (operation .key ≡ model.keyOf o) × (operation .value ≡ model.valueOf o)
 
-abbrev pub logged : ℕ → ℕ → model.Operation → model.Reply → Logged
+abbrev pub logged : ℕ → ℕ → model.Operation → model.Answer → Logged
 logged transaction object o answer =
     record { object = object; entry = record { transaction = transaction; operation = o; answer = answer } }
 
 -- An entry's words: of its parts, and read from the book.
-abbrev pub wordsOf : ℕ → ℕ → Operation → Reply → List ℕ
-wordsOf transaction object operation answer =
+abbrev pub entryWordsOf : ℕ → ℕ → Operation → Answer → List ℕ
+entryWordsOf transaction object operation answer =
     transaction ∷ object ∷ operation .number ∷ operation .key ∷ operation .value ∷ answer .code ∷ answer .value ∷ []
 
 abbrev pub wordsAt : List ℕ → ℕ → List ℕ
@@ -79,7 +73,7 @@ abbrev pub others : List ℕ → ℕ → ℕ → List Logged
 others w t i = without t (tabulate i (entryAt w))
 
 -- The book is w with those entries, `kept` in number, written over the log's first words.
-pub record Gathered (w : List ℕ) (t i : ℕ) (book : List ℕ) (kept : ℕ) : Type 0 where
+pub record Compacted (w : List ℕ) (t i : ℕ) (book : List ℕ) (kept : ℕ) : Type 0 where
   pub few : kept ≤ i
   pub count : kept ≡ length (others w t i)
   pub size : length book ≡ length w

@@ -1,6 +1,6 @@
 // The log in the book: word 0, and the entries from word 2,145 on.
+use operations::Answer;
 use operations::Operation;
-use operations::Reply;
 ghost use mathlib.Core.Path.{_≡_};
 ghost use mathlib.Core.Logic.{_↔_};
 ghost use mathlib.Core.Bool.{true};
@@ -9,18 +9,20 @@ ghost use lib.ListN.{length, replicate};
 ghost use lib.Seq.{sets};
 ghost use Rattle.bitset.specs.Bitset.{Holds};
 ghost use Rattle.operations.specs.Operations as model;
-ghost use Rattle.operations.specs.Stored.{asReply};
-ghost use Rattle.store.specs.Store.{Live};
-ghost use Rattle.store.specs.Layout.{Packed, base, encode, decode, word, entryStart, AsStored};
+ghost use Rattle.operations.specs.Stored.{answerOf};
+ghost use Rattle.store.specs.Store.{entryLimit, Live};
+ghost use Rattle.store.specs.Layout.{BookLong, Packed, base, encode, decode, word, entryStart, AsStored};
 ghost use Rattle.store.specs.Steps.{appended, dropped};
-ghost use Rattle.log.specs.Log.{StoredWords, LogBounded, kindBy};
-ghost use Rattle.log.specs.Log.{EntryLive, EntryOfKind, KeyReduced, EntryFits, LogFits};
-ghost use Rattle.log.specs.Log.{StoredAs, logged, wordsOf, wordsAt, Gathered};
+ghost use Rattle.log.specs.Log.{StoredWords, LogBounded};
+ghost use Rattle.log.specs.Log.{EntryLive, EntryOfKind, EntryKeyReduced, EntryAdmitted, LogFits};
+ghost use Rattle.log.specs.Log.{StoredAs, logged, entryWordsOf, wordsAt, Compacted};
 
-// Operations that use no key or item, and those that use no value: bit n stands for operation n.
-const KEYLESS: u32 = 0b0100_0000_1100;
+// Sets of operations, bit n for operation n: all, those that use no key or item, and those that use no value.
+const ALL: u32 = (1 << (operations::MODIFY + 1)) - (1 << operations::PUSH);
 
-const VALUELESS: u32 = 0b0111_0111_1110;
+const KEYLESS: u32 = 1 << operations::POP | 1 << operations::TOP | 1 << operations::SIZE;
+
+const VALUELESS: u32 = ALL & !(1 << operations::TABLE_INSERT | 1 << operations::MODIFY);
 
 // Whether the words are those that are stored for an operation: its number is in range, and an argument that it does
 // not use is 0.
@@ -28,7 +30,7 @@ fn is_stored(operation: Operation) -> bool
     ensures { λ r. ⌜ (r ≡ true) ↔ StoredWords (operation .number) (operation .key) (operation .value) ⌝ }
 {
     let number = operation.number;
-    if number == 0 || number > 11 {
+    if number == 0 || number > operations::MODIFY {
         return false;
     }
     let key = ((KEYLESS >> number) & 1) * operation.key;
@@ -38,7 +40,7 @@ fn is_stored(operation: Operation) -> bool
 
 // The number of entries is in range, and the words past them are 0.
 pub fn bounded(book: &[u32]) -> bool
-    requires { ⌜ length (now book) ≡ 3937 ⌝ }
+    requires { ⌜ BookLong (now book) ⌝ }
     ensures { λ r. ⌜ (r ≡ true) ↔ LogBounded (now (book .entry)) ⌝ }
 {
     let count = layout::entry_count(book);
@@ -49,21 +51,8 @@ pub fn bounded(book: &[u32]) -> bool
     layout::is_zero(&book[start..])
 }
 
-// The kind that an operation is of, by its number.
-fn kind_of(number: u32) -> u32
-    ensures { λ r. ⌜ r ≡ kindBy number ⌝ }
-{
-    if number < 4 {
-        return 1;
-    }
-    if number < 7 {
-        return 2;
-    }
-    3
-}
-
 fn is_live(book: &[u32], live: u64, i: usize) -> bool
-    requires { ⌜ (length (now book) ≡ 3937) × (i < 256) × Holds live (Live (decode base (now book))) ⌝ }
+    requires { ⌜ BookLong (now book) × (i < entryLimit) × Holds live (Live (decode base (now book))) ⌝ }
     ensures { λ r. ⌜ (r ≡ true) ↔ EntryLive (now (book .entry)) i ⌝ }
 {
     let transaction = layout::entry_transaction(book, i);
@@ -74,7 +63,7 @@ fn is_live(book: &[u32], live: u64, i: usize) -> bool
 }
 
 fn of_kind(book: &[u32], i: usize) -> bool
-    requires { ⌜ (length (now book) ≡ 3937) × (i < 256) × AsStored (now book) i ⌝ }
+    requires { ⌜ BookLong (now book) × (i < entryLimit) × AsStored (now book) i ⌝ }
     ensures { λ r. ⌜ (r ≡ true) ↔ EntryOfKind (now (book .entry)) i ⌝ }
 {
     let object = layout::wide(layout::entry_object(book, i));
@@ -82,20 +71,20 @@ fn of_kind(book: &[u32], i: usize) -> bool
         return false;
     }
     let operation = layout::entry_operation(book, i);
-    layout::object_kind(book, object) == kind_of(operation.number)
+    layout::object_kind(book, object) == operations::kind_of(operation.number)
 }
 
 fn is_reduced(book: &[u32], i: usize) -> bool
-    requires { ⌜ (length (now book) ≡ 3937) × (i < 256) × AsStored (now book) i ⌝ }
-    ensures { λ r. ⌜ (r ≡ true) ↔ KeyReduced (now (book .entry)) i ⌝ }
+    requires { ⌜ BookLong (now book) × (i < entryLimit) × AsStored (now book) i ⌝ }
+    ensures { λ r. ⌜ (r ≡ true) ↔ EntryKeyReduced (now (book .entry)) i ⌝ }
 {
     let operation = layout::entry_operation(book, i);
-    kind_of(operation.number) == 1 || operation.key < layout::KEYS
+    operations::kind_of(operation.number) == operations::STACK || operation.key < layout::KEYS
 }
 
 fn entry_fits(book: &[u32], live: u64, i: usize) -> bool
-    requires { ⌜ (length (now book) ≡ 3937) × (i < 256) × Holds live (Live (decode base (now book))) ⌝ }
-    ensures { λ r. ⌜ (r ≡ true) ↔ EntryFits (now (book .entry)) i ⌝ }
+    requires { ⌜ BookLong (now book) × (i < entryLimit) × Holds live (Live (decode base (now book))) ⌝ }
+    ensures { λ r. ⌜ (r ≡ true) ↔ EntryAdmitted (now (book .entry)) i ⌝ }
 {
     if !is_stored(layout::entry_operation(book, i)) {
         return false;
@@ -108,7 +97,7 @@ fn entry_fits(book: &[u32], live: u64, i: usize) -> bool
 
 // Whether each entry is as stored, belongs to a live transaction, fits its object's kind and has a reduced key.
 pub fn fits(book: &[u32], live: u64) -> bool
-    requires { ⌜ (length (now book) ≡ 3937) × LogBounded (now book) × Holds live (Live (decode base (now book))) ⌝ }
+    requires { ⌜ BookLong (now book) × LogBounded (now book) × Holds live (Live (decode base (now book))) ⌝ }
     ensures { λ r. ⌜ (r ≡ true) ↔ LogFits (now (book .entry)) ⌝ }
 {
     let count = layout::entry_count(book);
@@ -127,36 +116,37 @@ fn put(
     transaction: u32,
     object: u32,
     operation: Operation,
-    answer: Reply,
+    answer: Answer,
 )
-    requires { ⌜ (length (now book) ≡ 3937) × (i < 256) ⌝ }
+    requires { ⌜ BookLong (now book) × (i < entryLimit) ⌝ }
     ensures { λ r. ⌜ now (book .exit)
-        ≡ sets (now (book .entry)) (entryStart i) (wordsOf transaction object operation answer) ⌝ }
+        ≡ sets (now (book .entry)) (entryStart i) (entryWordsOf transaction object operation answer) ⌝ }
 {
     let start = layout::LOG + layout::ENTRY * i;
     book[start] = transaction;
-    book[start + 1] = object;
-    book[start + 2] = operation.number;
-    book[start + 3] = operation.key;
-    book[start + 4] = operation.value;
-    book[start + 5] = answer.code;
-    book[start + 6] = answer.value;
+    book[start + layout::LOGGED_OBJECT] = object;
+    book[start + layout::LOGGED_NUMBER] = operation.number;
+    book[start + layout::LOGGED_KEY] = operation.key;
+    book[start + layout::LOGGED_VALUE] = operation.value;
+    book[start + layout::ANSWER_CODE] = answer.code;
+    book[start + layout::ANSWER_VALUE] = answer.value;
 }
 
 // An entry put last.
-pub fn append(book: &mut [u32], transaction: u32, object: u32, operation: Operation, answer: Reply)
-    requires { ⌜ Packed base (now book) × (word (now book) 0 < 256) × ((o : model.Operation) × StoredAs operation o) ⌝ }
+pub fn append(book: &mut [u32], transaction: u32, object: u32, operation: Operation, answer: Answer)
+    requires { ⌜ Packed base (now book) × (word (now book) 0 < entryLimit)
+        × ((o : model.Operation) × StoredAs operation o) ⌝ }
     ensures { λ r. ⌜ ((o : model.Operation) → StoredAs operation o → now (book .exit)
-        ≡ encode base (appended (logged transaction object o (asReply answer)) (decode base (now (book .entry))))) ⌝ }
+        ≡ encode base (appended (logged transaction object o (answerOf answer)) (decode base (now (book .entry))))) ⌝ }
 {
     let count = layout::entry_count(book);
     put(book, count, transaction, object, operation, answer);
-    book[0] += 1;
+    book[layout::LOG_COUNT] += 1;
 }
 
 // The words of one entry, written over those of another.
 fn move_entry(book: &mut [u32], from: usize, to: usize)
-    requires { ⌜ (length (now book) ≡ 3937) × (from < 256) × (to < 256) ⌝ }
+    requires { ⌜ BookLong (now book) × (from < entryLimit) × (to < entryLimit) ⌝ }
     ensures { λ r. ⌜ now (book .exit) ≡ sets (now (book .entry)) (entryStart to) (wordsAt (now (book .entry)) from) ⌝ }
 {
     let transaction = layout::entry_transaction(book, from);
@@ -169,7 +159,7 @@ fn move_entry(book: &mut [u32], from: usize, to: usize)
 // The entries of other transactions, moved to the front of the log, and their number.
 fn gather(book: &mut [u32], transaction: u32) -> usize
     requires { ⌜ Packed base (now book) ⌝ }
-    ensures { λ r. ⌜ Gathered (now (book .entry)) transaction (word (now (book .entry)) 0) (now (book .exit)) r ⌝ }
+    ensures { λ r. ⌜ Compacted (now (book .entry)) transaction (word (now (book .entry)) 0) (now (book .exit)) r ⌝ }
 {
     let count = layout::entry_count(book);
     let mut kept: usize = 0;
@@ -201,5 +191,5 @@ pub fn remove(book: &mut [u32], transaction: u32)
         layout::LOG + layout::ENTRY * kept,
         layout::LOG + layout::ENTRY * count,
     );
-    book[0] = kept as u32;
+    book[layout::LOG_COUNT] = kept as u32;
 }

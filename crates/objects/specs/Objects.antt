@@ -15,12 +15,13 @@ pub record InRange (k n : ℕ) : Type 0 where
   pub none : k ≡ 0 → n ≡ 0
 
 -- Keys are reduced and strictly ascend, as in sets and tables.
-abbrev pub Keyed : List Row → Type 0
-Keyed rs = All (KeyReduced reduceKey) rs × Ascending rs
+abbrev pub KeyedRows : List Row → Type 0
+KeyedRows rs = All (KeyReduced reduceKey) rs × Ascending rs
 
 -- The rows of an object are of its kind's form.
-abbrev pub Formed : List ℕ → ℕ → Type 0
-Formed w o = (kind : Kind) → readKind (word w (objectStart o)) ≡ some kind → WellFormed reduceKey kind (rowsAt w o)
+abbrev pub ObjectFormed : List ℕ → ℕ → Type 0
+ObjectFormed w o =
+    (kind : Kind) → readKind (word w (objectStart o)) ≡ some kind → WellFormed reduceKey kind (rowsAt w o)
 
 -- The words of an object, given its kind's number and its rows.
 abbrev pub wordsOf : ℕ → List Row → List ℕ

@@ -1,5 +1,7 @@
 pub mod Cases
 pub mod Storing
+pub mod Numbers
+pub mod ObjectTypes
 pub mod Recoverability
 pub mod Rows
 pub mod Stacks

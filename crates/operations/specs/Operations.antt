@@ -1,5 +1,6 @@
--- Document 01, "Operations and their replies": what each operation does to an object's rows, and what it replies.
--- Rows are of any number ("without limits"). Arguments are as stored: only `stored` reduces a key, by the reduction that it is given.
+-- Document 01, "Operations and their replies": what each operation does to an object's rows, and what it answers. Rows
+-- are of any number ("without limits"). Arguments are as stored: only `stored` reduces a key, by the reduction that it
+-- is given.
 use Prim.Native.Nat.{ℕ, _-_, _%_, _^_, _≤_, _<_}
 use mathlib.Core.Path.{_≡_}
 use mathlib.Core.Bool.{Bool, true, false, not, cond}
@@ -12,7 +13,13 @@ use lib.ListN.{length, getD, take}
 pub data Kind : Type 0 where
   Stack Set Table : Kind
 
--- A row, two words as the book writes it. A stack's: item and 0, bottom first; a set's: key and 0; a table's: key and value.
+abbrev pub kindNumber : Kind → ℕ
+kindNumber Stack = 1
+kindNumber Set = 2
+kindNumber Table = 3
+
+-- A row, two words as the book writes it. A stack's: item and 0, bottom first; a set's: key and 0; a table's: key and
+-- value.
 pub record Row : Type 0 where
   pub key : ℕ
   pub value : ℕ
@@ -20,23 +27,23 @@ pub record Row : Type 0 where
 abbrev pub row : ℕ → ℕ → Row
 row k v = record { key = k; value = v }
 
--- A reply: a code and a value.
-pub record Reply : Type 0 where
+-- An answer: a code and a value.
+pub record Answer : Type 0 where
   pub code : ℕ
   pub value : ℕ
 
-abbrev pub replied : ℕ → ℕ → Reply
-replied c v = record { code = c; value = v }
+abbrev pub answering : ℕ → ℕ → Answer
+answering c v = record { code = c; value = v }
 
 -- `1 0` or `0 0`.
-abbrev pub flag : Bool → Reply
-flag true = replied 1 0
-flag false = replied 0 0
+abbrev pub flag : Bool → Answer
+flag true = answering 1 0
+flag false = answering 0 0
 
 -- `1` and the value, or `0 0`.
-abbrev pub valued : Option ℕ → Reply
-valued none = replied 0 0
-valued (some v) = replied 1 v
+abbrev pub valued : Option ℕ → Answer
+valued none = answering 0 0
+valued (some v) = answering 1 v
 
 pub data StackOperation : Type 0 where
   push : (item : ℕ) → StackOperation
@@ -73,48 +80,49 @@ abbrev pub numbered : (ℕ → ℕ) → ℕ → ℕ → List Operation
 numbered reduce k v =
     onStack (push k) ∷ onStack pop ∷ onStack top
     ∷ onSet (setInsert (reduce k)) ∷ onSet (setDelete (reduce k)) ∷ onSet (member (reduce k))
-    ∷ onTable (tableInsert (reduce k) v) ∷ onTable (tableDelete (reduce k)) ∷ onTable (lookup (reduce k)) ∷ onTable size ∷ onTable (modify (reduce k) v)
+    ∷ onTable (tableInsert (reduce k) v) ∷ onTable (tableDelete (reduce k)) ∷ onTable (lookup (reduce k)) ∷ onTable size
+    ∷ onTable (modify (reduce k) v)
     ∷ []
 
 -- The operation that a number names, its arguments as stored; none where no operation has that number.
 abbrev pub stored : (ℕ → ℕ) → ℕ → ℕ → ℕ → Option Operation
 stored reduce number k v = getD (none ∷ map some (numbered reduce k v)) number none
 
--- What is stored for an operation: its number, its key or item, and its value. An argument that it does not use is 0.
+-- What is stored for an operation: its number, its key or item, and its value, 0 where it does not use one; and whether
+-- it may need a row, as a push or an insert does.
+pub record Description : Type 0 where
+  pub number : ℕ
+  pub key : ℕ
+  pub value : ℕ
+  pub adds : Bool
+
+abbrev described : ℕ → ℕ → ℕ → Bool → Description
+described number key value adds = record { number = number; key = key; value = value; adds = adds }
+
+abbrev pub description : Operation → Description
+description (onStack (push x)) = described 1 x 0 true
+description (onStack pop) = described 2 0 0 false
+description (onStack top) = described 3 0 0 false
+description (onSet (setInsert k)) = described 4 k 0 true
+description (onSet (setDelete k)) = described 5 k 0 false
+description (onSet (member k)) = described 6 k 0 false
+description (onTable (tableInsert k v)) = described 7 k v true
+description (onTable (tableDelete k)) = described 8 k 0 false
+description (onTable (lookup k)) = described 9 k 0 false
+description (onTable size) = described 10 0 0 false
+description (onTable (modify k v)) = described 11 k v false
+
 abbrev pub numberOf : Operation → ℕ
-numberOf (onStack (push x)) = 1
-numberOf (onStack pop) = 2
-numberOf (onStack top) = 3
-numberOf (onSet (setInsert k)) = 4
-numberOf (onSet (setDelete k)) = 5
-numberOf (onSet (member k)) = 6
-numberOf (onTable (tableInsert k v)) = 7
-numberOf (onTable (tableDelete k)) = 8
-numberOf (onTable (lookup k)) = 9
-numberOf (onTable size) = 10
-numberOf (onTable (modify k v)) = 11
+numberOf o = description o .number
 
 abbrev pub keyOf : Operation → ℕ
-keyOf (onStack (push x)) = x
-keyOf (onStack pop) = 0
-keyOf (onStack top) = 0
-keyOf (onSet (setInsert k)) = k
-keyOf (onSet (setDelete k)) = k
-keyOf (onSet (member k)) = k
-keyOf (onTable (tableInsert k v)) = k
-keyOf (onTable (tableDelete k)) = k
-keyOf (onTable (lookup k)) = k
-keyOf (onTable size) = 0
-keyOf (onTable (modify k v)) = k
+keyOf o = description o .key
 
 abbrev pub valueOf : Operation → ℕ
-valueOf (onStack o) = 0
-valueOf (onSet o) = 0
-valueOf (onTable (tableInsert k v)) = v
-valueOf (onTable (tableDelete k)) = 0
-valueOf (onTable (lookup k)) = 0
-valueOf (onTable size) = 0
-valueOf (onTable (modify k v)) = v
+valueOf o = description o .value
+
+abbrev pub adds : Operation → Bool
+adds o = description o .adds
 
 -- ---- Rows of sets and tables, whose keys ascend
 
@@ -149,7 +157,7 @@ abbrev pub modified : ℕ → ℕ → List Row → List Row
 modified k v [] = []
 modified k v (r ∷ rs) = byOrder (r .key) k (r ∷ modified k v rs) (row k v ∷ rs) (r ∷ rs)
 
--- ---- Next rows and reply
+-- ---- Next rows and answer
 
 abbrev pub stackNext : StackOperation → List Row → List Row
 stackNext (push x) rs = rs ++ (row x 0 ∷ [])
@@ -178,27 +186,27 @@ abbrev pub topItem : List Row → Option ℕ
 topItem [] = none
 topItem (r ∷ rs) = some (getD (r ∷ rs) (length rs) r .key)
 
-abbrev pub stackReply : StackOperation → List Row → Reply
-stackReply (push x) rs = replied 1 0
-stackReply pop rs = valued (topItem rs)
-stackReply top rs = valued (topItem rs)
+abbrev pub stackAnswer : StackOperation → List Row → Answer
+stackAnswer (push x) rs = answering 1 0
+stackAnswer pop rs = valued (topItem rs)
+stackAnswer top rs = valued (topItem rs)
 
-abbrev pub setReply : SetOperation → List Row → Reply
-setReply (setInsert k) rs = replied 1 0
-setReply (setDelete k) rs = flag (present k rs)
-setReply (member k) rs = flag (present k rs)
+abbrev pub setAnswer : SetOperation → List Row → Answer
+setAnswer (setInsert k) rs = answering 1 0
+setAnswer (setDelete k) rs = flag (present k rs)
+setAnswer (member k) rs = flag (present k rs)
 
-abbrev pub tableReply : TableOperation → List Row → Reply
-tableReply (tableInsert k v) rs = flag (not (present k rs))
-tableReply (tableDelete k) rs = flag (present k rs)
-tableReply (lookup k) rs = valued (found k rs)
-tableReply size rs = replied 1 (length rs)
-tableReply (modify k v) rs = flag (present k rs)
+abbrev pub tableAnswer : TableOperation → List Row → Answer
+tableAnswer (tableInsert k v) rs = flag (not (present k rs))
+tableAnswer (tableDelete k) rs = flag (present k rs)
+tableAnswer (lookup k) rs = valued (found k rs)
+tableAnswer size rs = answering 1 (length rs)
+tableAnswer (modify k v) rs = flag (present k rs)
 
-abbrev pub reply : Operation → List Row → Reply
-reply (onStack o) rs = stackReply o rs
-reply (onSet o) rs = setReply o rs
-reply (onTable o) rs = tableReply o rs
+abbrev pub answer : Operation → List Row → Answer
+answer (onStack o) rs = stackAnswer o rs
+answer (onSet o) rs = setAnswer o rs
+answer (onTable o) rs = tableAnswer o rs
 
 -- ---- Well-formed rows, and operations that fit a kind
 
@@ -228,9 +236,13 @@ WellFormed reduce Stack rs = All NoValue rs
 WellFormed reduce Set rs = All NoValue rs × All (KeyReduced reduce) rs × Ascending rs
 WellFormed reduce Table rs = All (KeyReduced reduce) rs × Ascending rs
 
--- Rows that a book can hold: at most 64, of words of 32 bits.
+-- The rows that an object has room for.
+abbrev pub rowLimit : ℕ
+rowLimit = 64
+
+-- Rows that a book can hold, of words of 32 bits.
 abbrev pub Holdable : List Row → Type 0
-Holdable rs = (length rs ≤ 64) × All (λ (r : Row). (r .key < 2 ^ 32) × (r .value < 2 ^ 32)) rs
+Holdable rs = (length rs ≤ rowLimit) × All (λ (r : Row). (r .key < 2 ^ 32) × (r .value < 2 ^ 32)) rs
 
 -- Keys of sets and tables are reduced.
 abbrev pub StoredKey : (ℕ → ℕ) → Operation → Type 0

@@ -1,8 +1,8 @@
 -- Document 01, "Pair rules": a requested operation against one already logged, on one object.
-use Prim.Native.Nat.{ℕ, _-_}
-use mathlib.Core.Bool.{Bool, true, false, not}
+use Prim.Native.Nat.{ℕ, _-_, _≤_}
+use mathlib.Core.Bool.{Bool, true, false, not, cond, _&&_, _||_}
 use mathlib.Core.List.{List, [], _∷_}
-use lib.Dec.{eqb}
+use lib.Dec.{eqb, leb}
 use lib.ListN.{getD}
 use Rattle.operations.specs.Operations.{Kind, Stack, Set, Table, Operation, kindOf, numberOf, keyOf}
 
@@ -20,7 +20,7 @@ allows apart requested logged = not (eqb (keyOf requested) (keyOf logged))
 abbrev pub Rules : Type 0
 Rules = List (List Rule)
 
--- ---- Recoverable: the requested operation's reply is the same from every state, whether or not the logged one ran
+-- ---- Recoverable: the requested operation's answer is the same from every state, whether or not the logged one ran
 
 -- push, pop, top (figure 1b)
 abbrev pub stackRecoverable : Rules
@@ -48,7 +48,7 @@ tableRecoverable =
     ∷ (apart ∷ apart ∷ always ∷ always ∷ always ∷ [])  -- modify against
     ∷ []
 
--- ---- Commuting: the same replies and the same state either way round, from every state
+-- ---- Commuting: the same answers and the same state either way round, from every state
 
 -- push, pop, top (figure 1a, but that two pushes do not commute)
 abbrev pub stackCommuting : Rules
@@ -100,6 +100,18 @@ lastNumber Stack = 3
 lastNumber Set = 6
 lastNumber Table = 11
 
+-- The number is that of an operation of the kind,
+abbrev pub OfKind : Kind → ℕ → Type 0
+OfKind kind number = (firstNumber kind ≤ number) × (number ≤ lastNumber kind)
+
+-- and of any.
+abbrev pub Numbered : ℕ → Type 0
+Numbered number = (firstNumber Stack ≤ number) × (number ≤ lastNumber Table)
+
+-- The kind of the operation that a number names.
+unfoldable pub kindNumbered : ℕ → Kind
+kindNumbered number = cond (leb number (lastNumber Stack)) Stack (cond (leb number (lastNumber Set)) Set Table)
+
 -- The entry at a row and a column, counted from 0.
 abbrev pub ruleAt : Rules → ℕ → ℕ → Rule
 ruleAt rules requested logged = getD (getD rules requested []) logged never
@@ -107,7 +119,8 @@ ruleAt rules requested logged = getD (getD rules requested []) logged never
 -- What the tables say of two operations of one kind; of two kinds nothing is meant.
 abbrev pub ruleFor : (Kind → Rules) → Operation → Operation → Rule
 ruleFor rules requested logged =
-    ruleAt (rules (kindOf requested)) (numberOf requested - firstNumber (kindOf requested)) (numberOf logged - firstNumber (kindOf requested))
+    let first = firstNumber (kindOf requested) in
+    ruleAt (rules (kindOf requested)) (numberOf requested - first) (numberOf logged - first)
 
 -- The relation that tables of the three kinds define.
 abbrev pub related : (Kind → Rules) → Operation → Operation → Bool
@@ -118,3 +131,14 @@ recoverable = related recoverableRules
 
 abbrev pub commutes : Operation → Operation → Bool
 commutes = related commutingRules
+
+-- Two pushes, or two modifies of one key: each is recoverable against the other, and the tables still order them. By
+-- their numbers, and whether the keys are the same,
+abbrev pub rewriting : (requested logged : ℕ) (sameKey : Bool) → Bool
+rewriting requested logged sameKey =
+    (eqb requested 1 && eqb logged 1) || (eqb requested 11 && (eqb logged 11 && sameKey))
+
+-- and of two operations.
+abbrev pub rewrites : Operation → Operation → Bool
+rewrites requested logged =
+    rewriting (numberOf requested) (numberOf logged) (eqb (keyOf requested) (keyOf logged))

@@ -1,14 +1,13 @@
 -- What the tables of `pairs` say.
-use Prim.Native.Nat.{ℕ, _+_, _-_, _≤_, _<_}
+use Prim.Native.Nat.{ℕ, _+_, _-_, _<_}
 use mathlib.Core.Path.{_≡_}
-use mathlib.Core.Bool.{Bool, false, cond}
+use mathlib.Core.Bool.{Bool, false}
 use mathlib.Core.List.{List}
 use mathlib.Core.Option.{Option, none, some}
-use lib.Dec.{leb}
 use lib.ListN.{getD}
 use Rattle.operations.specs.Operations as model
 use Rattle.operations.specs.PairRules.{Rule, always, never, apart, Rules, allows, ruleAt, firstNumber, lastNumber}
-use Rattle.operations.specs.PairRules.{recoverableRules, commutingRules}
+use Rattle.operations.specs.PairRules.{OfKind, kindNumbered, recoverableRules, commutingRules}
 use Rattle.operations.specs.declared.Operation.{Operation}
 use Rattle.operations.specs.Stored.{operationOf}
 
@@ -26,11 +25,8 @@ abbrev pub allowsKeys : Rule → ℕ → ℕ → Bool
 allowsKeys rule requested logged =
     allows rule (model.onSet (model.member requested)) (model.onSet (model.member logged))
 
-abbrev pub OfKind : model.Kind → Operation → Type 0
-OfKind kind o = (firstNumber kind ≤ o .number) × (o .number ≤ lastNumber kind)
-
 abbrev pub OneKind : Operation → Operation → Type 0
-OneKind requested logged = (kind : model.Kind) × OfKind kind requested × OfKind kind logged
+OneKind requested logged = (kind : model.Kind) × OfKind kind (requested .number) × OfKind kind (logged .number)
 
 -- A relation of two operations, asked of those that the numbers name.
 abbrev pub both : (model.Operation → model.Operation → Bool) → Option model.Operation → Option model.Operation → Bool
@@ -43,13 +39,7 @@ pairOf holds requested logged = both holds (operationOf requested) (operationOf 
 
 -- ---- Operations by number
 
-abbrev pub Numbered : ℕ → Type 0
-Numbered number = (1 ≤ number) × (number ≤ 11)
-
--- The kind of the operation that a number names.
-unfoldable pub kindNumbered : ℕ → model.Kind
-kindNumbered number = cond (leb number 3) model.Stack (cond (leb number 6) model.Set model.Table)
-
+-- The first and the last number of a number's kind.
 abbrev pub firstOf : ℕ → ℕ
 firstOf number = firstNumber (kindNumbered number)
 

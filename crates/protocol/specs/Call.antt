@@ -1,4 +1,5 @@
--- A call as a value, with any arguments, and what serving it leaves: the definitions that the contracts of the calls cite.
+-- A call as a value, with any arguments, and what serving it leaves: the definitions that the contracts of the calls
+-- cite.
 use Prim.Native.Nat.{ℕ}
 use mathlib.Core.List.{List, []}
 use Rattle.store.specs.Layout.{Format, base}

@@ -1,31 +1,35 @@
--- Document 01, "Calls" and "Reasons for saying no": each call, from every word of a book and any arguments to all that it leaves.
-use Prim.Native.Nat.{ℕ, zero, suc}
+-- Document 01, "Calls" and "Reasons for saying no": each call, from every word of a book and any arguments to all that
+-- it leaves.
+use Prim.Native.Nat.{ℕ, zero, suc, _-_}
 use mathlib.Core.Bool.{Bool, true, false, cond, decide, not, _&&_, _||_}
 use mathlib.Core.Option.{Option, none, some}
 use mathlib.Core.List.{List, [], _∷_, _++_, map}
 use lib.Dec.{eqb, ltb, leb}
 use lib.ListN.{length, replicate, drop}
-use Rattle.operations.specs.Operations.{Kind, Operation, Reply, kindOf, stored, reply}
+use Rattle.operations.specs.Operations.{Kind, Operation, Answer, stored, answer, next}
 use Rattle.operations.specs.PairRules.{recoverable, firstNumber, lastNumber}
 use Rattle.operations.specs.Log.{Entry, after}
-use Rattle.operations.specs.Laws.Objects.{object}
-use Rattle.store.specs.Store.{Status, absent, active, pseudoCommitted, Store, statusOf, objectOf, pseudoCommittedCount, onObject}
-use Rattle.store.specs.Layout.{Format, encode, decode, readKind, orPop, joined, rowWords, adds}
+use Rattle.operations.specs.Operations.{adds}
+use Rattle.store.specs.Store.{transactionCount, objectCount, entryLimit, listLength}
+use Rattle.store.specs.Store.{Status, absent, active, pseudoCommitted, Store, statusOf, objectOf, pseudoCommittedCount}
+use Rattle.store.specs.Store.{onObject}
+use Rattle.store.specs.Layout.{bookWords, Format, encode, decode, readKind, orPop, joined, rowWords}
 use Rattle.store.specs.Decisions.{whetherReady, whetherOnCycle}
 use Rattle.store.specs.Soundness.{Sound}
 use Rattle.store.specs.Steps.{appended, withStatus}
-use Rattle.protocol.specs.Replies.{Response, ok, answered, wait, finished, committed, circle, cancelled, counted, refused, outcome, Served, served}
+use Rattle.protocol.specs.Replies.{Reply, ok, answered, wait, finished, committed, circle, cancelled, counted}
+use Rattle.protocol.specs.Replies.{refused, outcome, Served, served}
 use Rattle.protocol.specs.Ending.{ended, commit, Settlement, committedFirst, settledAll}
 
 -- ---- Reasons for saying no, as 01 numbers them
 
 -- 1: the book isn't 3,937 words long.
 abbrev pub wrongLength : List ℕ → Bool
-wrongLength w = not (eqb (length w) 3_937)
+wrongLength w = not (eqb (length w) bookWords)
 
 -- 2: the list given to finish or cancel is shorter than 64.
 abbrev pub listTooShort : List ℕ → Bool
-listTooShort list = ltb (length list) 64
+listTooShort list = ltb (length list) listLength
 
 abbrev pub someAbove : ℕ → List ℕ → Bool
 someAbove n [] = false
@@ -33,7 +37,7 @@ someAbove n (k ∷ kinds) = ltb n k || someAbove n kinds
 
 -- 3: the kinds given to set up aren't 16 bytes, or one is above 3.
 abbrev pub badKinds : List ℕ → Bool
-badKinds kinds = not (eqb (length kinds) 16) || someAbove 3 kinds
+badKinds kinds = not (eqb (length kinds) objectCount) || someAbove 3 kinds
 
 -- 4: the book isn't sound.
 abbrev pub unsound : {format : Format} → ((w : List ℕ) → Dec (Sound format w)) → List ℕ → Bool
@@ -41,7 +45,7 @@ unsound whetherSound w = not (decide (whetherSound w))
 
 -- 5: the transaction's number is above 63.
 abbrev pub aboveLast : ℕ → Bool
-aboveLast t = ltb 63 t
+aboveLast t = ltb (transactionCount - 1) t
 
 abbrev pub isLive : Status → Bool
 isLive absent = false
@@ -80,9 +84,10 @@ notOfKind s o number = not (isOf (objectOf s o .kind) number)
 
 -- 10: the log holds 256 entries.
 abbrev pub logFull : Store → Bool
-logFull s = leb 256 (length (s .log))
+logFull s = leb entryLimit (length (s .log))
 
--- 11: a push or insert, of a key that is there already too, finds rows plus logged pushes and inserts of the object at the limit.
+-- 11: a push or insert, of a key that is there already too, finds rows plus logged pushes and inserts of the object at
+-- the limit.
 abbrev pub noRoom : Format → Store → ℕ → Operation → Bool
 noRoom format s o requested = adds requested && leb (format .limit) (format .used s o)
 
@@ -100,13 +105,33 @@ unless (suc n) w list s = served w (outcome (refused (suc n)) list [])
 
 -- An empty book of these kinds.
 abbrev pub empty : List ℕ → Store
-empty kinds = record { statuses = replicate 64 absent; objects = map (λ k. record { kind = readKind k; rows = [] }) kinds; log = [] }
+empty kinds =
+    record {
+      statuses = replicate transactionCount absent;
+      objects = map (λ k. record { kind = readKind k; rows = [] }) kinds;
+      log = [];
+    }
 
 -- The owner of the earliest entry of another transaction that the request isn't recoverable against.
-abbrev pub blocker : ℕ → Operation → List (Entry Operation Reply) → Option ℕ
+abbrev pub blocker : ℕ → Operation → List (Entry Operation Answer) → Option ℕ
 blocker t requested [] = none
 blocker t requested (e ∷ l) =
-    cond (eqb (e .transaction) t || recoverable requested (e .operation)) (blocker t requested l) (some (e .transaction))
+    cond (eqb (e .transaction) t || recoverable requested (e .operation))
+    (blocker t requested l) (some (e .transaction))
+
+-- The answer that replay gives after the object's rows and its entries in order.
+abbrev pub answerTo : Operation → Store → ℕ → Answer
+answerTo requested s o = answer requested (after next (onObject o (s .log)) (objectOf s o .rows))
+
+-- The request entered in the log with its answer.
+abbrev pub entered : ℕ → ℕ → Operation → Store → Store
+entered t o requested s =
+    appended (
+    record {
+      object = o;
+      entry = record { transaction = t; operation = requested; answer = answerTo requested s o };
+    }
+    ) s
 
 -- ---- The calls
 
@@ -114,16 +139,6 @@ module _ (format : Format) where
   -- The operation that a call asks for, its arguments as stored. Its number names one where 9 does not apply.
   abbrev pub request : ℕ → ℕ → ℕ → Operation
   request number k v = orPop (stored (format .reduce) number k v)
-
-  -- The answer that replay gives after the object's rows and its entries in order. `after` goes by `next`; of `object` only the laws look at kind and
-  -- reduction.
-  abbrev pub answerTo : Operation → Store → ℕ → Reply
-  answerTo requested s o = reply requested (after (object (format .reduce) (kindOf requested)) (onObject o (s .log)) (objectOf s o .rows))
-
-  -- The request entered in the log with its answer.
-  abbrev pub entered : ℕ → ℕ → Operation → Store → Store
-  entered t o requested s =
-      appended (record { object = o; entry = record { transaction = t; operation = requested; answer = answerTo requested s o } }) s
 
   -- Told to wait, with nothing changed, or entered and answered.
   abbrev pub respond : List ℕ → ℕ → ℕ → Operation → Option ℕ → Served
@@ -133,7 +148,7 @@ module _ (format : Format) where
       served (encode format (entered t o requested s)) (outcome (answered (answerTo requested s o)) [] [])
 
   -- Those that committed go to the list's front; the rest of the list keeps its bytes.
-  abbrev pub concluded : (ℕ → Response) → List ℕ → Settlement → Served
+  abbrev pub concluded : (ℕ → Reply) → List ℕ → Settlement → Served
   concluded said list r =
       let n = length (r .committed) in
       served (encode format (r .store)) (outcome (said n) (r .committed ++ drop n list) [])
@@ -154,10 +169,15 @@ module _ (format : Format) where
   -- However soundness is decided: a decision of it has no choice.
   module _ (whetherSound : (w : List ℕ) → Dec (Sound format w)) where
     abbrev pub beginReason : List ℕ → ℕ → ℕ
-    beginReason w t = first ((1, wrongLength w) ∷ (4, unsound whetherSound w) ∷ (5, aboveLast t) ∷ (6, alreadyLive (decode format w) t) ∷ [])
+    beginReason w t =
+        first (
+        (1, wrongLength w) ∷ (4, unsound whetherSound w) ∷ (5, aboveLast t) ∷ (6, alreadyLive (decode format w) t) ∷ []
+        )
 
     unfoldable pub begin : List ℕ → ℕ → Served
-    begin w t = unless (beginReason w t) w [] (served (encode format (withStatus t active (decode format w))) (outcome ok [] []))
+    begin w t =
+        unless (beginReason w t) w []
+        (served (encode format (withStatus t active (decode format w))) (outcome ok [] []))
 
     abbrev pub operateReason : List ℕ → ℕ → ℕ → ℕ → ℕ → ℕ → ℕ
     operateReason w t o number k v =
@@ -170,23 +190,27 @@ module _ (format : Format) where
     unfoldable pub operate : List ℕ → ℕ → ℕ → ℕ → ℕ → ℕ → Served
     operate w t o number k v =
         let requested = request number k v in
-        unless (operateReason w t o number k v) w [] (respond w t o requested (blocker t requested (onObject o (decode format w .log))))
+        unless (operateReason w t o number k v) w []
+        (respond w t o requested (blocker t requested (onObject o (decode format w .log))))
 
     -- Of finish and of cancel.
     abbrev pub endReason : List ℕ → ℕ → List ℕ → ℕ
     endReason w t list =
         first (
-        (1, wrongLength w) ∷ (2, listTooShort list) ∷ (4, unsound whetherSound w) ∷ (5, aboveLast t) ∷ (7, notActive (decode format w) t) ∷ []
+        (1, wrongLength w) ∷ (2, listTooShort list) ∷ (4, unsound whetherSound w) ∷ (5, aboveLast t)
+        ∷ (7, notActive (decode format w) t) ∷ []
         )
 
     unfoldable pub finish : List ℕ → ℕ → List ℕ → Served
     finish w t list = unless (endReason w t list) w list (finishActive (decode format w) t list)
 
     unfoldable pub cancel : List ℕ → ℕ → List ℕ → Served
-    cancel w t list = unless (endReason w t list) w list (concluded cancelled list (settledAll (ended t (decode format w))))
+    cancel w t list =
+        unless (endReason w t list) w list (concluded cancelled list (settledAll (ended t (decode format w))))
 
     abbrev pub contentsReason : List ℕ → ℕ → ℕ
-    contentsReason w o = first ((1, wrongLength w) ∷ (4, unsound whetherSound w) ∷ (8, withoutKind (decode format w) o) ∷ [])
+    contentsReason w o =
+        first ((1, wrongLength w) ∷ (4, unsound whetherSound w) ∷ (8, withoutKind (decode format w) o) ∷ [])
 
     -- The reply is the twin's; the rows, two words each, are what contents hands back: that part of the book itself.
     unfoldable pub contents : List ℕ → ℕ → Served

@@ -4,14 +4,16 @@ use mathlib.Core.Bool.{Bool, false, cond, decide, _&&_}
 use mathlib.Core.Option.{Option, none, some}
 use mathlib.Core.List.{List, [], _∷_}
 use lib.Dec.{eqb}
-use Rattle.store.specs.Store.{Status, absent, active, pseudoCommitted, Logged, Store, statusOf, pseudoCommittedCount}
+use Rattle.store.specs.Store.{transactionCount, Status, absent, active, pseudoCommitted, Logged, Store, statusOf}
+use Rattle.store.specs.Store.{pseudoCommittedCount}
 use Rattle.store.specs.Decisions.{whetherReady}
 use Rattle.store.specs.Steps.{dropped, folded, withStatus, closedUp}
 
 -- The transaction's entries carried into the rows, in order.
 abbrev pub carriedOut : ℕ → List Logged → Store → Store
 carriedOut t [] s = s
-carriedOut t (l ∷ log) s = carriedOut t log (cond (eqb (l .entry .transaction) t) (folded (l .object) (l .entry .operation) s) s)
+carriedOut t (l ∷ log) s =
+    carriedOut t log (cond (eqb (l .entry .transaction) t) (folded (l .object) (l .entry .operation) s) s)
 
 -- Ranks close up where one with a rank has ended.
 abbrev pub closedAfter : Status → Store → Store
@@ -43,10 +45,12 @@ hasRank rank absent = false
 hasRank rank active = false
 hasRank rank (pseudoCommitted r) = eqb r rank
 
--- The pseudo-committed (finished) one of lowest rank that depends on nobody. In a sound store ranks are below 64, as transactions are.
+-- The pseudo-committed (finished) one of lowest rank that depends on nobody. In a sound store ranks are below 64, as
+-- transactions are.
 unfoldable pub lowestReady : Store → Option ℕ
 lowestReady s =
-    firstBelow 64 (λ rank. firstBelow 64 (λ t. cond (hasRank rank (statusOf s t) && decide (whetherReady (s .log) t)) (some t) none))
+    firstBelow transactionCount (λ rank. firstBelow transactionCount (λ t.
+    cond (hasRank rank (statusOf s t) && decide (whetherReady (s .log) t)) (some t) none))
 
 -- The store after some commits, and who committed, in order.
 pub record Settlement : Type 0 where

@@ -1,4 +1,5 @@
 pub mod Replies
+pub mod ReplyOf
 pub mod Ending
 pub mod Calls
 pub mod Call

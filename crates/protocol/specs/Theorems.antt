@@ -1,37 +1,46 @@
--- What holds of the calls as `Calls` and `Ending` define them: where each is refused, and what it leaves; that each operation is answered, told to wait,
--- ordered behind another, finished, cancelled for a circle or committed exactly where document 000's recoverability and commit protocol (sections 4.2.1 and
--- 4.3), as 01 fixes them, says so; and what every call keeps.
+-- What holds of the calls as `Calls` and `Ending` define them: where each is refused, and what it leaves; that each
+-- operation is answered, told to wait, ordered behind another, finished, cancelled for a circle or committed exactly
+-- where document 000's recoverability and commit protocol (sections 4.2.1 and 4.3), as 01 fixes them, says so; and what
+-- every call keeps.
 use Prim.Native.Nat.{ℕ, _+_, _*_, _<_, _≤_}
 use mathlib.Core.Path.{_≡_, sym, ap, _∙_, subst}
 use mathlib.Core.Bool.{true, false}
 use mathlib.Core.Logic.{_↔_, _⊎_, Iff·rfl, Iff·trans, Iff·and}
 use mathlib.Core.Option.{some}
 use mathlib.Core.List.{List, [], _∷_, _++_, map}
-use lib.ListN.{length, replicate, take, drop}
-use Rattle.operations.specs.Operations.{Kind, Operation, Reply, All, kindOf, reply, reduceKey}
+use native.Mathlib.Omega.{arith}
+use lib.ListN.{length, length-set, replicate, take, drop}
+use lib.Seq.{getD-set-same, getD-set-other}
+use Rattle.operations.specs.Operations.{Kind, Operation, Answer, All, numberOf, keyOf, valueOf, answer, next}
 use Rattle.operations.specs.PairRules.{recoverable, commutes}
 use Rattle.operations.specs.Log.{Entry, after}
 use Rattle.operations.specs.Laws.Objects.{object}
-use Rattle.store.specs.Store.{absent, active, pseudoCommitted, Logged, Store, statusOf, Active, PseudoCommitted, pseudoCommittedCount, objectOf, onObject}
-use Rattle.store.specs.Dependency.{Any, DependsOn, Ready, Path, OnCycle}
-use Rattle.store.specs.Layout.{decode, objectStart, readKind, joined, rowWords, Representable, base}
-use Rattle.store.specs.Steps.{without, withStatus}
+use Rattle.store.specs.Store.{absent, active, pseudoCommitted, Logged, Store, statusOf, Active, PseudoCommitted}
+use Rattle.store.specs.Store.{pseudoCommittedCount, objectOf, onObject}
+use Rattle.store.specs.Dependency.{Any, DependsOn, Ready, Leads, OnCycle}
+use Rattle.store.specs.Layout.{decode, word, objectStart, readKind, joined, rowWords, Representable, base}
+use Rattle.store.specs.Steps.{appended, without, withStatus}
 use Rattle.store.specs.Soundness.{Unsettled, Sound}
 use Rattle.store.specs.Decisions.{whetherSound}
 use Rattle.store.specs.Theorems.{representable, none-left}
 use Rattle.store.specs.Laws.Changes.{representable-status}
-use Rattle.protocol.specs.Replies.{Served, ok, answered, wait, finished, committed, circle, cancelled, counted, refused}
+use Rattle.protocol.specs.Replies.{Served, ok, answered, wait, finished, committed, circle, cancelled, counted}
+use Rattle.protocol.specs.Replies.{refused}
 use Rattle.protocol.specs.Ending.{ended, commit, Settlement, settledAll}
-use Rattle.protocol.specs.Calls.{setUpReason, setUp, beginReason, begin, blocker, request, operateReason, operate, endReason, finish, cancel, contentsReason, contents}
+use Rattle.protocol.specs.Calls.{setUpReason, setUp, beginReason, begin, blocker, request, operateReason, operate}
+use Rattle.protocol.specs.Calls.{endReason, finish, cancel, contentsReason, contents}
 use Rattle.protocol.specs.Call.{Call, desk, reasonOf, listOf}
-use Rattle.protocol.specs.Terms.{SetUpAccepted, BeginAccepted, OperateAccepted, EndAccepted, ContentsAccepted, LowestReady, Places, Earliest, inOrder, withoutAll, Distinct}
-use Rattle.protocol.specs.Laws.Reasons.{set-up-accepted, set-up-accepts, begin-accepted, begin-accepts, operate-accepted, operate-accepts, end-accepted, end-accepts, contents-accepted, contents-accepts}
+use Rattle.protocol.specs.Terms.{SetUpAccepted, BeginAccepted, OperateAccepted, EndAccepted, ContentsAccepted}
+use Rattle.protocol.specs.Terms.{LowestReady, Places, Earliest, inOrder, withoutAll, Distinct}
+use Rattle.protocol.specs.Laws.Reasons.{set-up-accepted, set-up-accepts, begin-accepted, begin-accepts}
+use Rattle.protocol.specs.Laws.Reasons.{operate-accepted, operate-accepts, end-accepted, end-accepts}
+use Rattle.protocol.specs.Laws.Reasons.{contents-accepted, contents-accepts}
 use Rattle.protocol.specs.Laws.Blocking.{blocked-none, blocked-some}
 use Rattle.protocol.specs.Laws.Settling.{lowest-found, none-ready, settled-end, settled-step}
 use Rattle.protocol.specs.Laws.Protocol as protocol
 use Rattle.protocol.specs.Laws.Commits as commits
 use Rattle.protocol.specs.Laws.Concluding as concluding
-use Rattle.protocol.specs.Laws.Concluding.{Concluded}
+use Rattle.protocol.specs.Laws.Concluding.{EndLeaves}
 use Rattle.protocol.specs.Laws.Keeping.{emptied-sound}
 use Rattle.protocol.specs.Laws.Kept as kept
 use Rattle.protocol.specs.Laws.Leaving as leaving
@@ -39,7 +48,8 @@ use Rattle.protocol.specs.Laws.Leaving as leaving
 -- ---- Reasons for saying no
 
 -- A call is refused exactly where a reason applies, with the first one's number,
-pub refused-exactly : (call : Call) (w : List ℕ) (n : ℕ) → (desk call w .outcome .reply ≡ refused n) ↔ ((reasonOf call w ≡ n) × (n ≡ 0 → ⊥))
+pub refused-exactly : (call : Call) (w : List ℕ) (n : ℕ)
+    → (desk call w .outcome .reply ≡ refused n) ↔ ((reasonOf call w ≡ n) × (n ≡ 0 → ⊥))
 refused-exactly call w = leaving.refused-by (reasonOf call w) w (listOf call) (desk call w) (leaving.guard call w)
 
 -- and leaves book and list as they are, with an empty part handed back.
@@ -54,10 +64,13 @@ set-up-may w kinds = (set-up-accepted base w kinds, set-up-accepts base w kinds)
 pub begin-may : (w : List ℕ) (t : ℕ) → (beginReason base whetherSound w t ≡ 0) ↔ BeginAccepted base w t
 begin-may w t = (begin-accepted base whetherSound w t, begin-accepts base whetherSound w t)
 
-pub operate-may : (w : List ℕ) (t o number k v : ℕ) → (operateReason base whetherSound w t o number k v ≡ 0) ↔ OperateAccepted base w t o number k v
-operate-may w t o number k v = (operate-accepted base whetherSound w t o number k v, operate-accepts base whetherSound w t o number k v)
+pub operate-may : (w : List ℕ) (t o number k v : ℕ)
+    → (operateReason base whetherSound w t o number k v ≡ 0) ↔ OperateAccepted base w t o number k v
+operate-may w t o number k v =
+    (operate-accepted base whetherSound w t o number k v, operate-accepts base whetherSound w t o number k v)
 
-pub end-may : (w : List ℕ) (t : ℕ) (list : List ℕ) → (endReason base whetherSound w t list ≡ 0) ↔ EndAccepted base w t list
+pub end-may : (w : List ℕ) (t : ℕ) (list : List ℕ)
+    → (endReason base whetherSound w t list ≡ 0) ↔ EndAccepted base w t list
 end-may w t list = (end-accepted base whetherSound w t list, end-accepts base whetherSound w t list)
 
 pub contents-may : (w : List ℕ) (o : ℕ) → (contentsReason base whetherSound w o ≡ 0) ↔ ContentsAccepted base w o
@@ -69,17 +82,33 @@ contents-may w o = (contents-accepted base whetherSound w o, contents-accepts ba
 pub set-up-leaves : (w kinds : List ℕ) → setUpReason base w kinds ≡ 0
     → (setUp base w kinds .outcome .reply ≡ ok)
     × (decode base (setUp base w kinds .book)
-    ≡ record { statuses = replicate 64 absent; objects = map (λ k. record { kind = readKind k; rows = [] }) kinds; log = [] })
+    ≡ record {
+      statuses = replicate 64 absent;
+      objects = map (λ k. record { kind = readKind k; rows = [] }) kinds;
+      log = [];
+    })
 set-up-leaves w kinds accepted =
-    leaving.read-back (setUp base w kinds) _ (emptied-sound kinds (set-up-accepted base w kinds accepted .sixteen) .1) (leaving.set-up-served w kinds accepted)
+    leaving.read-back (setUp base w kinds) _ (emptied-sound kinds (set-up-accepted base w kinds accepted .sixteen) .1)
+    (leaving.set-up-served w kinds accepted)
 
 -- begin leaves the transaction active, and all else as it was;
 pub begin-leaves : (w : List ℕ) (t : ℕ) → beginReason base whetherSound w t ≡ 0
-    → (begin base whetherSound w t .outcome .reply ≡ ok) × (decode base (begin base whetherSound w t .book) ≡ withStatus t active (decode base w))
+    → (begin base whetherSound w t .outcome .reply ≡ ok)
+    × (decode base (begin base whetherSound w t .book) ≡ withStatus t active (decode base w))
 begin-leaves w t accepted =
     let s = decode base w in
     let fits = representable w (begin-accepted base whetherSound w t accepted .sound .packed) in
-    leaving.read-back (begin base whetherSound w t) (withStatus t active s) (representable-status s fits t active) (leaving.begin-served w t accepted)
+    leaving.read-back (begin base whetherSound w t) (withStatus t active s) (representable-status s fits t active)
+    (leaving.begin-served w t accepted)
+
+-- of the book's words it changes one, the transaction's, which becomes 1;
+pub begin-one-word : (w : List ℕ) (t : ℕ) → beginReason base whetherSound w t ≡ 0
+    → let after = begin base whetherSound w t .book in
+    (word after (1 + t) ≡ 1) × ((i : ℕ) → (i ≡ 1 + t → ⊥) → word after i ≡ word w i) × (length after ≡ length w)
+begin-one-word w t accepted =
+    let (written, within) = leaving.begin-written w t accepted in
+    rw written
+    (getD-set-same w (1 + t) 1 0 within, λ i other. getD-set-other w (1 + t) i 1 0 other, length-set w (1 + t) 1)
 
 -- contents counts the object's rows, and hands them back, two words each, as that part of the book itself.
 pub contents-leaves : (w : List ℕ) (o : ℕ) → contentsReason base whetherSound w o ≡ 0
@@ -109,40 +138,73 @@ module _ (w : List ℕ) (t o number k v : ℕ) (accepted : operateReason base wh
   operated = operate base whetherSound w t o number k v
 
   -- It is answered exactly where it is recoverable against every entry of another transaction on the object,
-  pub operate-answered-exactly : ((a : Reply) × (operated .outcome .reply ≡ answered a))
-      ↔ All (λ (e : Entry Operation Reply). (e .transaction ≡ t → ⊥) → recoverable requested (e .operation) ≡ true) (onObject o (s .log))
+  pub operate-answered-exactly : ((a : Answer) × (operated .outcome .reply ≡ answered a))
+      ↔ All (λ (e : Entry Operation Answer). (e .transaction ≡ t → ⊥) → recoverable requested (e .operation) ≡ true)
+      (onObject o (s .log))
   operate-answered-exactly =
       rw (protocol.responded w t o number k v accepted)
-      (Iff·trans (protocol.answered-none w t o requested (blocker t requested (onObject o (s .log)))) (blocked-none t requested (onObject o (s .log))))
+      (Iff·trans (protocol.answered-none w t o requested (blocker t requested (onObject o (s .log))))
+      (blocked-none t requested (onObject o (s .log))))
 
   -- waits for the owner of the earliest that it is not recoverable against,
-  pub operate-waits-exactly : (owner : ℕ) → (operated .outcome .reply ≡ wait owner) ↔ Earliest t requested owner (onObject o (s .log))
+  pub operate-waits-exactly : (owner : ℕ) → (operated .outcome .reply ≡ wait owner)
+      ↔ Earliest t requested owner (onObject o (s .log))
   operate-waits-exactly owner =
       rw (protocol.responded w t o number k v accepted)
-      (Iff·trans (protocol.waits-some w t o requested owner (blocker t requested (onObject o (s .log)))) (blocked-some t requested owner (onObject o (s .log))))
+      (Iff·trans (protocol.waits-some w t o requested owner (blocker t requested (onObject o (s .log))))
+      (blocked-some t requested owner (onObject o (s .log))))
 
   -- and does one of the two; waiting, it changes no word.
-  pub operate-either : ((a : Reply) × (operated .outcome .reply ≡ answered a))
+  pub operate-either : ((a : Answer) × (operated .outcome .reply ≡ answered a))
       ⊎ ((owner : ℕ) × (operated .outcome .reply ≡ wait owner) × (operated .book ≡ w))
   operate-either =
-      rw (protocol.responded w t o number k v accepted) (protocol.either-reply w t o requested (blocker t requested (onObject o (s .log))))
+      rw (protocol.responded w t o number k v accepted)
+      (protocol.either-reply w t o requested (blocker t requested (onObject o (s .log))))
 
-  -- The answer is the reply after the object's rows and its entries in order, and the request stands last in the log with it.
-  pub operate-replayed : (a : Reply) → operated .outcome .reply ≡ answered a
-      → (a ≡ reply requested (after (object reduceKey (kindOf requested)) (onObject o (s .log)) (objectOf s o .rows)))
+  -- The answer is what replay gives after the object's rows and its entries in order, and the request stands last in
+  -- the log with it.
+  pub operate-replayed : (a : Answer) → operated .outcome .reply ≡ answered a
+      → (a ≡ answer requested (after next (onObject o (s .log)) (objectOf s o .rows)))
       × (decode base (operated .book)
-      ≡ record {
-        statuses = s .statuses;
-        objects = s .objects;
-        log = s .log ++ (record { object = o; entry = record { transaction = t; operation = requested; answer = a } } ∷ []);
-      })
-  operate-replayed a said = (protocol.replayed w t o number k v accepted a said, protocol.entered-last w t o number k v accepted a said)
+      ≡ appended (record { object = o; entry = record { transaction = t; operation = requested; answer = a } }) s)
+  operate-replayed a said =
+      (protocol.replayed w t o number k v accepted a said, protocol.entered-last w t o number k v accepted a said)
 
-  -- Answered, it orders its transaction behind the owners of entries on the object that it does not commute with, and no other behind anyone.
-  pub ordered-behind : (a : Reply) → operated .outcome .reply ≡ answered a → (x b : ℕ)
+  -- Of the book's words an answered one changes eight: the number of entries, which goes up by one, and the seven
+  -- behind the entries that there were, which become the new entry's.
+  pub operate-eight-words : (a : Answer) → operated .outcome .reply ≡ answered a
+      → let after = operated .book in
+      let start = 2_145 + 7 * word w 0 in
+      (word after 0 ≡ word w 0 + 1)
+      × (word after start ≡ t) × (word after (start + 1) ≡ o)
+      × (word after (start + 2) ≡ numberOf requested) × (word after (start + 3) ≡ keyOf requested)
+      × (word after (start + 4) ≡ valueOf requested)
+      × (word after (start + 5) ≡ a .code) × (word after (start + 6) ≡ a .value)
+      × ((i : ℕ) → (i ≡ 0 → ⊥) → (i < start) ⊎ (start + 7 ≤ i) → word after i ≡ word w i)
+      × (length after ≡ length w)
+  operate-eight-words a said =
+      let (count, entry, other, size) = protocol.eight-words w t o number k v accepted a said in
+      let first : word (operated .book) (2_145 + 7 * word w 0) ≡ t =
+      ap (word (operated .book)) (omega arith) ∙ entry 0 (omega arith) in (
+        count,
+        first,
+        entry 1 (omega arith),
+        entry 2 (omega arith),
+        entry 3 (omega arith),
+        entry 4 (omega arith),
+        entry 5 (omega arith),
+        entry 6 (omega arith),
+        other,
+        size,
+      )
+
+  -- Answered, it orders its transaction behind the owners of entries on the object that it does not commute with, and
+  -- no other behind anyone.
+  pub ordered-behind : (a : Answer) → operated .outcome .reply ≡ answered a → (x b : ℕ)
       → DependsOn (decode base (operated .book) .log) x b
       ↔ (DependsOn (s .log) x b ⊎ ((x ≡ t) × (x ≡ b → ⊥)
-      × Any (λ (l : Logged). (l .entry .transaction ≡ b) × (l .object ≡ o) × (commutes requested (l .entry .operation) ≡ false)) (s .log)))
+      × Any (λ (l : Logged). (l .entry .transaction ≡ b) × (l .object ≡ o)
+      × (commutes requested (l .entry .operation) ≡ false)) (s .log)))
   ordered-behind = protocol.ordered w t o number k v accepted
 
 -- A transaction depends on another exactly where two places of the log say so; d stands for entries past its end.
@@ -158,14 +220,19 @@ module _ (w : List ℕ) (t : ℕ) (list : List ℕ) (accepted : endReason base w
   abbrev ending : Served
   ending = finish base whetherSound w t list
 
-  -- It is cancelled for a circle exactly where it lies on one, of any length, whose other members are all pseudo-committed;
-  pub finish-circle : ((n : ℕ) × (ending .outcome .reply ≡ circle n)) ↔ Path (DependsOn (before .log)) (PseudoCommitted before) t t
+  -- It is cancelled for a circle exactly where it lies on one, of any length, whose other members are all
+  -- pseudo-committed;
+  pub finish-circle : ((n : ℕ) × (ending .outcome .reply ≡ circle n))
+      ↔ Leads (DependsOn (before .log)) (PseudoCommitted before) t t
   finish-circle =
-      rw (protocol.finishing w t list accepted) (Iff·trans (protocol.circle-exactly before t list) (protocol.any-circle w t list accepted))
+      rw (protocol.finishing w t list accepted)
+      (Iff·trans (protocol.circle-exactly before t list) (protocol.any-circle w t list accepted))
 
-  -- that is where some pseudo-committed one is both among those that it depends on, by ways through such, and among those that depend on it;
+  -- that is where some pseudo-committed one is both among those that it depends on, by ways through such, and among
+  -- those that depend on it;
   pub finish-circle-shared : ((n : ℕ) × (ending .outcome .reply ≡ circle n))
-      ↔ ((u : ℕ) × PseudoCommitted before u × Path (DependsOn (before .log)) (PseudoCommitted before) t u × Path (DependsOn (before .log)) (PseudoCommitted before) u t)
+      ↔ ((u : ℕ) × PseudoCommitted before u × Leads (DependsOn (before .log)) (PseudoCommitted before) t u
+      × Leads (DependsOn (before .log)) (PseudoCommitted before) u t)
   finish-circle-shared = Iff·trans finish-circle (protocol.circle-shared (before .log) (PseudoCommitted before) t)
 
   -- it commits exactly where it depends on nobody;
@@ -173,11 +240,13 @@ module _ (w : List ℕ) (t : ℕ) (list : List ℕ) (accepted : endReason base w
   finish-committed = rw (protocol.finishing w t list accepted) (protocol.committed-exactly before t list)
 
   -- it is pseudo-committed exactly where neither is so;
-  pub finish-finished : (ending .outcome .reply ≡ finished) ↔ ((OnCycle before t → ⊥) × ((u : ℕ) × DependsOn (before .log) t u))
+  pub finish-finished : (ending .outcome .reply ≡ finished)
+      ↔ ((OnCycle before t → ⊥) × ((u : ℕ) × DependsOn (before .log) t u))
   finish-finished = rw (protocol.finishing w t list accepted) (protocol.finished-exactly before t list)
 
   -- and there is no fourth reply. Cancel has one.
-  pub finish-either : ((n : ℕ) × (ending .outcome .reply ≡ circle n)) ⊎ ((n : ℕ) × (ending .outcome .reply ≡ committed n)) ⊎ (ending .outcome .reply ≡ finished)
+  pub finish-either : ((n : ℕ) × (ending .outcome .reply ≡ circle n))
+      ⊎ ((n : ℕ) × (ending .outcome .reply ≡ committed n)) ⊎ (ending .outcome .reply ≡ finished)
   finish-either = rw (protocol.finishing w t list accepted) (protocol.one-of-three before t list)
 
   pub cancel-cancelled : (n : ℕ) × (cancel base whetherSound w t list .outcome .reply ≡ cancelled n)
@@ -185,10 +254,12 @@ module _ (w : List ℕ) (t : ℕ) (list : List ℕ) (accepted : endReason base w
 
   -- Pseudo-committed, it is last in the order of finishing, and nobody commits.
   pub finish-ranked : ending .outcome .reply ≡ finished
-      → (decode base (ending .book) ≡ withStatus t (pseudoCommitted (pseudoCommittedCount before)) before) × (ending .outcome .list ≡ list)
+      → (decode base (ending .book) ≡ withStatus t (pseudoCommitted (pseudoCommittedCount before)) before)
+      × (ending .outcome .list ≡ list)
   finish-ranked =
       rw (protocol.finishing w t list accepted)
-      (protocol.ranked-last before t list (representable w (end-accepted base whetherSound w t list accepted .sound .packed)))
+      (protocol.ranked-last before t list
+      (representable w (end-accepted base whetherSound w t list accepted .sound .packed)))
 
 -- ---- Who commits then
 
@@ -196,20 +267,23 @@ module _ (w : List ℕ) (t : ℕ) (list : List ℕ) (accepted : endReason base w
 module _ (s : Store) (r : Representable base s) (h : Unsettled base s) where
   -- The pseudo-committed one of lowest rank that depends on nobody commits, and so on,
   pub commits-lowest : (t : ℕ) → LowestReady s t
-      → (settledAll s .store ≡ settledAll (commit t s) .store) × (settledAll s .committed ≡ t ∷ settledAll (commit t s) .committed)
+      → (settledAll s .store ≡ settledAll (commit t s) .store)
+      × (settledAll s .committed ≡ t ∷ settledAll (commit t s) .committed)
   commits-lowest t lowest =
       let e = settled-step s (r .statuses) t (lowest-found s (r .statuses) (h .once) (h .gapless) t lowest) in
       (ap (λ (x : Settlement). x .store) e, ap (λ (x : Settlement). x .committed) e)
 
   -- until none is left.
-  pub commits-none : ((t : ℕ) → PseudoCommitted s t → Ready (s .log) t → ⊥) → (settledAll s .store ≡ s) × (settledAll s .committed ≡ [])
+  pub commits-none : ((t : ℕ) → PseudoCommitted s t → Ready (s .log) t → ⊥)
+      → (settledAll s .store ≡ s) × (settledAll s .committed ≡ [])
   commits-none none =
       let e = settled-end s (none-ready s (r .statuses) (h .once) (h .gapless) .1 none) in
       (ap (λ (x : Settlement). x .store) e, ap (λ (x : Settlement). x .committed) e)
 
   -- So a pseudo-committed one commits exactly where no way of dependencies leads from it to an active one;
   pub settles-exactly : (u : ℕ) → PseudoCommitted s u
-      → Any (λ (x : ℕ). x ≡ u) (settledAll s .committed) ↔ (((v : ℕ) × Active s v × Path (DependsOn (s .log)) (λ c. Unit {0}) u v) → ⊥)
+      → Any (λ (x : ℕ). x ≡ u) (settledAll s .committed)
+      ↔ (((v : ℕ) × Active s v × Leads (DependsOn (s .log)) (λ c. Unit {0}) u v) → ⊥)
   settles-exactly = commits.settles-exactly s r h
 
   -- no other commits,
@@ -217,7 +291,8 @@ module _ (s : Store) (r : Representable base s) (h : Unsettled base s) where
   settles-only = commits.all-commits s r h .only
 
   -- one that does not commit stays pseudo-committed,
-  pub never-aborted : (u : ℕ) → PseudoCommitted s u → Any (λ (x : ℕ). x ≡ u) (settledAll s .committed) ⊎ PseudoCommitted (settledAll s .store) u
+  pub never-aborted : (u : ℕ) → PseudoCommitted s u
+      → Any (λ (x : ℕ). x ≡ u) (settledAll s .committed) ⊎ PseudoCommitted (settledAll s .store) u
   never-aborted = commits.all-commits s r h .kept
 
   -- and active ones stay active.
@@ -227,40 +302,49 @@ module _ (s : Store) (r : Representable base s) (h : Unsettled base s) where
 -- Of finish and of cancel, where the reply counts those that committed.
 module _ (w : List ℕ) (t : ℕ) (list : List ℕ) (accepted : endReason base whetherSound w t list ≡ 0) (r : Served)
     (call : (r ≡ finish base whetherSound w t list) ⊎ (r ≡ cancel base whetherSound w t list)) (n : ℕ)
-    (counted : (r .outcome .reply ≡ committed n) ⊎ (r .outcome .reply ≡ circle n) ⊎ (r .outcome .reply ≡ cancelled n)) where
-  abbrev left : Concluded (decode base w) t list r n
+    (counted : (r .outcome .reply ≡ committed n) ⊎ (r .outcome .reply ≡ circle n)
+    ⊎ (r .outcome .reply ≡ cancelled n)) where
+  abbrev left : EndLeaves (decode base w) t list r n
   left = concluding.concludes w t list accepted n r counted call
 
-  -- At the list's front stand exactly those that commit: the transaction itself, where it does, and each pseudo-committed one from which, once the
-  -- transaction's entries are out of the log, no way of dependencies leads to another active one.
+  -- At the list's front stand exactly those that commit: the transaction itself, where it does, and each
+  -- pseudo-committed one from which, once the transaction's entries are out of the log, no way of dependencies leads to
+  -- another active one.
   pub commits-exactly : (u : ℕ)
       → Any (λ (x : ℕ). x ≡ u) (take n (r .outcome .list))
       ↔ (((u ≡ t) × (r .outcome .reply ≡ committed n))
       ⊎ (PseudoCommitted (decode base w) u
-      × (((v : ℕ) × (v ≡ t → ⊥) × Active (decode base w) v × Path (DependsOn (without t (decode base w .log))) (λ c. Unit {0}) u v) → ⊥)))
+      × (((v : ℕ) × (v ≡ t → ⊥) × Active (decode base w) v
+      × Leads (DependsOn (without t (decode base w .log))) (λ c. Unit {0}) u v) → ⊥)))
   commits-exactly = concluding.commits-exactly (decode base w) t list r n left
 
   -- The other pseudo-committed ones stay so, and the other active ones.
   pub stay-exactly : (u : ℕ)
-      → PseudoCommitted (decode base (r .book)) u ↔ (PseudoCommitted (decode base w) u × (Any (λ (x : ℕ). x ≡ u) (take n (r .outcome .list)) → ⊥))
+      → PseudoCommitted (decode base (r .book)) u
+      ↔ (PseudoCommitted (decode base w) u × (Any (λ (x : ℕ). x ≡ u) (take n (r .outcome .list)) → ⊥))
   stay-exactly = concluding.stay-exactly (decode base w) t list r n left
 
   -- Ranks close up in their order: of two that stay, one is below the other exactly if it was before.
-  pub ranks-keep-order : (u v p q i j : ℕ) → statusOf (decode base w) u ≡ pseudoCommitted p → statusOf (decode base w) v ≡ pseudoCommitted q
-      → statusOf (decode base (r .book)) u ≡ pseudoCommitted i → statusOf (decode base (r .book)) v ≡ pseudoCommitted j → (i < j) ↔ (p < q)
+  pub ranks-keep-order : (u v p q i j : ℕ)
+      → statusOf (decode base w) u ≡ pseudoCommitted p → statusOf (decode base w) v ≡ pseudoCommitted q
+      → statusOf (decode base (r .book)) u ≡ pseudoCommitted i → statusOf (decode base (r .book)) v ≡ pseudoCommitted j
+      → (i < j) ↔ (p < q)
   ranks-keep-order = concluding.ranks-keep-order (decode base w) t list r n left
 
   pub active-exactly : (u : ℕ) → Active (decode base (r .book)) u ↔ ((u ≡ t → ⊥) × Active (decode base w) u)
   active-exactly = concluding.active-exactly (decode base w) t list r n left
 
   -- They stand in the order of `commits-lowest`, the transaction itself first where it commits;
-  pub commits-in-order : ((r .outcome .reply ≡ committed n) × (take n (r .outcome .list) ≡ t ∷ settledAll (commit t (decode base w)) .committed))
-      ⊎ ((r .outcome .reply ≡ committed n → ⊥) × (take n (r .outcome .list) ≡ settledAll (ended t (decode base w)) .committed))
+  pub commits-in-order : ((r .outcome .reply ≡ committed n)
+      × (take n (r .outcome .list) ≡ t ∷ settledAll (commit t (decode base w)) .committed))
+      ⊎ ((r .outcome .reply ≡ committed n → ⊥)
+      × (take n (r .outcome .list) ≡ settledAll (ended t (decode base w)) .committed))
   commits-in-order = concluding.named-in-order (decode base w) t list r n left
 
   -- they are as many as the reply counts, at most 64, and none is named twice,
   pub commits-counted : (length (take n (r .outcome .list)) ≡ n) × (n ≤ 64)
-  commits-counted = (concluding.named-counted (decode base w) t list r n left, concluding.named-few (decode base w) t list r n left)
+  commits-counted =
+      (concluding.named-counted (decode base w) t list r n left, concluding.named-few (decode base w) t list r n left)
 
   pub commits-once : Distinct (take n (r .outcome .list))
   commits-once = concluding.named-once (decode base w) t list r n left
@@ -269,10 +353,12 @@ module _ (w : List ℕ) (t : ℕ) (list : List ℕ) (accepted : endReason base w
   pub rest-stays : r .outcome .list ≡ take n (r .outcome .list) ++ drop n list
   rest-stays = concluding.rest-stays (decode base w) t list r n left
 
-  -- The rows of each object become what the entries of those named make of them, served one transaction after the other, each one's own in order;
+  -- The rows of each object become what the entries of those named make of them, served one transaction after the
+  -- other, each one's own in order;
   pub commits-carry : (o : ℕ) (kind : Kind) → objectOf (decode base w) o .kind ≡ some kind
       → objectOf (decode base (r .book)) o .rows
-      ≡ after (object reduceKey kind) (inOrder (take n (r .outcome .list)) (onObject o (decode base w .log))) (objectOf (decode base w) o .rows)
+      ≡ after next (inOrder (take n (r .outcome .list)) (onObject o (decode base w .log)))
+      (objectOf (decode base w) o .rows)
   commits-carry = concluding.rows-carried (decode base w) t list r n left
 
   -- the entries of those named and of the transaction leave the log, and no others,
@@ -288,7 +374,8 @@ module _ (w : List ℕ) (t : ℕ) (list : List ℕ) (accepted : endReason base w
 -- An accepted set up writes a sound book over any words,
 pub set-up-sound : (w kinds : List ℕ) → setUpReason base w kinds ≡ 0 → Sound base (setUp base w kinds .book)
 set-up-sound w kinds accepted =
-    subst (λ (r : Served). Sound base (r .book)) (sym (leaving.set-up-served w kinds accepted)) (kept.empty-encoded w kinds accepted)
+    subst (λ (r : Served). Sound base (r .book)) (sym (leaving.set-up-served w kinds accepted))
+    (kept.empty-encoded w kinds accepted)
 
 -- every call leaves a sound book sound,
 pub sound-kept : (call : Call) (w : List ℕ) → Sound base w → Sound base (desk call w .book)
@@ -296,8 +383,10 @@ sound-kept = kept.sound-kept whetherSound
 
 -- and when no transaction is active afterwards, none is left pseudo-committed.
 pub none-left-finished : (call : Call) (w : List ℕ) → Sound base w
-    → ((t : ℕ) → Active (decode base (desk call w .book)) t → ⊥) → (t : ℕ) → PseudoCommitted (decode base (desk call w .book)) t → ⊥
+    → ((t : ℕ) → Active (decode base (desk call w .book)) t → ⊥)
+    → (t : ℕ) → PseudoCommitted (decode base (desk call w .book)) t → ⊥
 none-left-finished call w h =
     let after = sound-kept call w h in
-    none-left (decode base (desk call w .book)) (representable (desk call w .book) (after .packed) .statuses) (after .store .unsettled .acyclic)
+    none-left (decode base (desk call w .book)) (representable (desk call w .book) (after .packed) .statuses)
+    (after .store .unsettled .acyclic)
     (after .store .dependent)

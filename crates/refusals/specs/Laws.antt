@@ -10,11 +10,14 @@ use native.Mathlib.Omega.{arith}
 use borrow.Author.Tests.{eq-eqb, ne-eqb, lt-ltb, le-ltb, le-leb, lt-leb}
 use lib.Dec.{eqb, ltb, leb}
 use lib.ListN.{length, getD, List·getD-eq-default}
-use Rattle.operations.specs.Operations.{Kind, Operation, numbered, reduceKey}
+use Rattle.operations.specs.Operations.{Kind, Stack, Set, Table, kindNumber, Operation, numbered, reduceKey}
 use Rattle.operations.specs.Laws.Cases.{split, by-key}
-use Rattle.operations.specs.PairRules.{firstNumber, lastNumber}
+use Rattle.operations.specs.Laws.Numbers.{kinds, within-kind}
+use Rattle.operations.specs.PairRules.{firstNumber, lastNumber, OfKind, kindNumbered}
+use Rattle.operations.specs.Operations.{adds}
+use Rattle.store.specs.Layout.{BookLong, bookWords}
 use Rattle.store.specs.Store.{Status, Object, Store, statusOf, objectOf}
-use Rattle.store.specs.Layout.{base, decode, readStatus, readKind, word, objectStart, entryAt, orPop, adds, Packed}
+use Rattle.store.specs.Layout.{base, decode, readStatus, readKind, word, objectStart, entryAt, orPop, Packed}
 use Rattle.store.specs.Soundness.{Sound}
 use Rattle.store.specs.Decisions.{whetherSound}
 use Rattle.store.specs.Laws.Deciding.{decided}
@@ -24,7 +27,9 @@ use Rattle.store.specs.Laws.Objects.{kind-named}
 use Rattle.store.specs.Laws.Words.{below, each}
 use Rattle.answers.specs.Answers.{rowsNeeded}
 use Rattle.answers.specs.Laws.Entries.{needed-none}
-use Rattle.protocol.specs.Calls.{wrongLength, someAbove, badKinds, unsound, aboveLast, isLive, alreadyLive, isActive, notActive, isNone, withoutKind, isOf, notOfKind, logFull, noRoom, request}
+use Rattle.protocol.specs.Laws.Reasons.{of-length}
+use Rattle.protocol.specs.Calls.{wrongLength, someAbove, badKinds, unsound, aboveLast, isLive, alreadyLive, isActive}
+use Rattle.protocol.specs.Calls.{notActive, isNone, withoutKind, isOf, notOfKind, logFull, noRoom, request}
 
 -- ---- The first that applies
 
@@ -47,9 +52,11 @@ pub also-below : (n : ℕ) (kinds : List ℕ) (i : ℕ) → ((j : ℕ) → j < i
     → (j : ℕ) → j < i + 1 → getD kinds j 0 ≤ n
 also-below n kinds i below here j l = by-key (λ (k : ℕ). getD kinds k 0 ≤ n) j i here (λ other. below j (omega arith))
 
-pub none-above : (n : ℕ) (kinds : List ℕ) → ((i : ℕ) → i < length kinds → getD kinds i 0 ≤ n) → false ≡ someAbove n kinds
+pub none-above : (n : ℕ) (kinds : List ℕ) → ((i : ℕ) → i < length kinds → getD kinds i 0 ≤ n)
+    → false ≡ someAbove n kinds
 none-above n [] below = refl
-none-above n (k ∷ kinds) below = rw (le-ltb n k (below 0 (omega arith))) (none-above n kinds (λ i l. below (suc i) (omega arith)))
+none-above n (k ∷ kinds) below =
+    rw (le-ltb n k (below 0 (omega arith))) (none-above n kinds (λ i l. below (suc i) (omega arith)))
 
 module _ (kinds : List ℕ) where
   pub bad-number : (length kinds ≡ 16 → ⊥) → badKinds kinds ≡ true
@@ -60,19 +67,54 @@ module _ (kinds : List ℕ) where
 
 -- ---- The number of an operation
 
-module _ (kind : Kind) (x number : ℕ) (read : readKind x ≡ some kind) where
-  pub from-first : firstNumber kind ≤ number → leb number (lastNumber kind) ≡ isOf (readKind x) number
-  from-first l = rw (read, le-leb (firstNumber kind) number l) refl
+module _ (number : ℕ) where
+  inside : (kind : Kind) → OfKind kind number → true ≡ isOf (some kind) number
+  inside kind (l, m) = rw (le-leb (firstNumber kind) number l, le-leb number (lastNumber kind) m) refl
 
-  pub before-first : number < firstNumber kind → leb (firstNumber kind) number ≡ isOf (readKind x) number
-  before-first l = rw (read, lt-leb (firstNumber kind) number l) refl
+  before-first : (kind : Kind) → number < firstNumber kind → false ≡ isOf (some kind) number
+  before-first kind l = rw (lt-leb (firstNumber kind) number l) refl
 
-pub of-no-kind : (x number : ℕ) → (x ≡ 1 → ⊥) → (x ≡ 2 → ⊥) → (x ≡ 3 → ⊥) → false ≡ isOf (readKind x) number
-of-no-kind zero number a b c = refl
-of-no-kind (suc zero) number a b c = absurd (a refl)
-of-no-kind (suc (suc zero)) number a b c = absurd (b refl)
-of-no-kind (suc (suc (suc zero))) number a b c = absurd (c refl)
-of-no-kind (suc (suc (suc (suc x)))) number a b c = refl
+  after-last : (kind : Kind) → lastNumber kind < number → false ≡ isOf (some kind) number
+  after-last kind l =
+      rw (lt-leb number (lastNumber kind) l) (sym (and-false (leb (firstNumber kind) number)))
+
+  pub below-all : (kind : Option Kind) → number < 1 → false ≡ isOf kind number
+  below-all none l = refl
+  below-all (some Stack) l = before-first Stack l
+  below-all (some Set) l = before-first Set (omega arith)
+  below-all (some Table) l = before-first Table (omega arith)
+
+  pub above-all : (kind : Option Kind) → 11 < number → false ≡ isOf kind number
+  above-all none l = refl
+  above-all (some Stack) l = after-last Stack (omega arith)
+  above-all (some Set) l = after-last Set (omega arith)
+  above-all (some Table) l = after-last Table l
+
+  of-kind : (own kind : Kind) → OfKind own number → eqb (kindNumber own) (kindNumber kind) ≡ isOf (some kind) number
+  of-kind Stack Stack r = inside Stack r
+  of-kind Stack Set r = before-first Set (omega arith)
+  of-kind Stack Table r = before-first Table (omega arith)
+  of-kind Set Stack r = after-last Stack (r .0)
+  of-kind Set Set r = inside Set r
+  of-kind Set Table r = before-first Table (omega arith)
+  of-kind Table Stack r = after-last Stack (omega arith)
+  of-kind Table Set r = after-last Set (r .0)
+  of-kind Table Table r = inside Table r
+
+  by-word : (own : Kind) (x : ℕ) → OfKind own number → eqb (kindNumber own) x ≡ isOf (readKind x) number
+  by-word own zero r = ne-eqb (kindNumber own) 0 (λ e. omega (arith, kinds own, e))
+  by-word own (suc zero) r = of-kind own Stack r
+  by-word own (suc (suc zero)) r = of-kind own Set r
+  by-word own (suc (suc (suc zero))) r = of-kind own Table r
+  by-word own (suc (suc (suc (suc x)))) r =
+      ne-eqb (kindNumber own) (suc (suc (suc (suc x)))) (λ e. omega (arith, kinds own, e))
+
+  -- The kind that the number tells is the kind read, or not.
+  pub kind-compared : (own x : ℕ) → 1 ≤ number → number ≤ 11 → own ≡ kindNumber (kindNumbered number)
+      → eqb own x ≡ isOf (readKind x) number
+  kind-compared own x l m e =
+      ap (λ (k : ℕ). eqb k x) e
+      ∙ by-word (kindNumbered number) x (within-kind number (l, m) (kindNumbered number) refl)
 
 -- ---- What is read as a status or a kind
 
@@ -89,11 +131,8 @@ other-word (suc (suc rank)) n = refl
 -- ---- Each test
 
 module _ (w : List ℕ) where
-  pub other-length : (length w ≡ 3_937 → ⊥) → wrongLength w ≡ true
-  other-length n = ap not (ne-eqb (length w) 3_937 n)
-
-  pub right-length : length w ≡ 3_937 → wrongLength w ≡ false
-  right-length e = ap not (eq-eqb (length w) 3_937 e)
+  pub other-length : (BookLong w → ⊥) → wrongLength w ≡ true
+  other-length n = ap not (ne-eqb (length w) bookWords n)
 
   pub soundness : {sound : Bool} → (sound ≡ true) ↔ Sound base w → unsound whetherSound w ≡ not sound
   soundness {sound} said = ap not (decided (whetherSound w) sound said)
@@ -120,16 +159,19 @@ module _ (w : List ℕ) where
   module _ (o at kind : ℕ) (l : o ≤ 15) (here : at ≡ o) (found : kind ≡ word w (objectStart at)) where
     kind-read : objectOf (decode base w) o .kind ≡ readKind kind
     kind-read =
-        ap (λ (x : Object). x .kind) (object-read base w o (omega arith)) ∙ ap (λ (x : ℕ). readKind (word w (objectStart x))) (sym here)
+        ap (λ (x : Object). x .kind) (object-read base w o (omega arith))
+        ∙ ap (λ (x : ℕ). readKind (word w (objectStart x))) (sym here)
         ∙ ap readKind (sym found)
 
     pub without-kind : kind ≡ 0 → withoutKind (decode base w) o ≡ true
     without-kind e = ap isNone (kind-read ∙ ap readKind e)
 
     pub has-kind : Packed base w → (kind ≡ 0 → ⊥) → withoutKind (decode base w) o ≡ false
-    has-kind p n = ap isNone kind-read ∙ ap isNone (kind-named kind (rw (found, here) (p .objects o (omega arith) .kind)) n .1)
+    has-kind p n =
+        ap isNone kind-read ∙ ap isNone (kind-named kind (rw (found, here) (p .objects o (omega arith) .kind)) n .1)
 
-    pub not-of-kind : (number : ℕ) {of : Bool} → of ≡ isOf (readKind kind) number → notOfKind (decode base w) o number ≡ not of
+    pub not-of-kind : (number : ℕ) {of : Bool} → of ≡ isOf (readKind kind) number
+        → notOfKind (decode base w) o number ≡ not of
     not-of-kind number e = ap (λ (x : Option Kind). not (isOf x number)) kind-read ∙ ap not (sym e)
 
   pub log-full : word w 0 ≡ 256 → logFull (decode base w) ≡ true
@@ -140,28 +182,33 @@ module _ (w : List ℕ) where
 
 -- An operation may need a row where its number is that of a push or an insert.
 adds-needed : (number k v : ℕ) → adds (request base number k v) ≡ eqb (rowsNeeded number) 1
+unfolding rowsNeeded
 adds-needed number k v =
     below number 12 (each (λ (n : ℕ). adds (request base n k v) ≡ eqb (rowsNeeded n) 1) 12 search depth 20 number)
-    (λ (l : 12 ≤ number). ap (λ (o : Option Operation). adds (orPop o)) (List·getD-eq-default (none ∷ map some (numbered reduceKey k v)) none l)
+    (λ (l : 12 ≤ number). ap (λ (o : Option Operation). adds (orPop o))
+    (List·getD-eq-default (none ∷ map some (numbered reduceKey k v)) none l)
     ∙ ap (λ (n : ℕ). eqb n 1)
-    (needed-none number (⊎-elim (λ e. absurd (omega arith)) (⊎-elim (λ e. absurd (omega arith)) (λ e. absurd (omega arith))))))
+    (needed-none number
+    (⊎-elim (λ e. absurd (omega arith)) (⊎-elim (λ e. absurd (omega arith)) (λ e. absurd (omega arith))))))
 
 module _ (s : Store) (o number k v : ℕ) where
   pub no-room : {rows used : ℕ} → rows ≡ rowsNeeded number → rows ≡ 1 → used ≡ base .used s o → leb 64 used ≡ true
       → noRoom base s o (request base number k v) ≡ true
   no-room needs one counted full = rw (adds-needed number k v, sym needs, one, sym counted, full) refl
 
-  pub needs-none : {rows : ℕ} → rows ≡ rowsNeeded number → (rows ≡ 1 → ⊥) → noRoom base s o (request base number k v) ≡ false
+  pub needs-none : {rows : ℕ} → rows ≡ rowsNeeded number → (rows ≡ 1 → ⊥)
+      → noRoom base s o (request base number k v) ≡ false
   needs-none {rows} needs other = rw (adds-needed number k v, sym needs, ne-eqb rows 1 other) refl
 
-  pub has-room : {used : ℕ} → used ≡ base .used s o → leb 64 used ≡ false → noRoom base s o (request base number k v) ≡ false
+  pub has-room : {used : ℕ} → used ≡ base .used s o → leb 64 used ≡ false
+      → noRoom base s o (request base number k v) ≡ false
   has-room counted free = rw (sym counted, free) (and-false (adds (request base number k v)))
 
 -- ---- Past the tests that calls begin with
 
-module _ (w : List ℕ) (right : length w ≡ 3_937) where
+module _ (w : List ℕ) (right : BookLong w) where
   pub past-length : {r later : ℕ} → r ≡ later → r ≡ cond (wrongLength w) 1 later
-  past-length rest = passed 1 (right-length w right) rest
+  past-length rest = passed 1 (of-length w right) rest
 
   module _ {sound : Bool} (said : (sound ≡ true) ↔ Sound base w) (holds : not sound ≡ false) where
     pub past-soundness : {r later : ℕ} → r ≡ later → r ≡ cond (wrongLength w) 1 (cond (unsound whetherSound w) 4 later)

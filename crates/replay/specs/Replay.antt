@@ -15,30 +15,31 @@ abbrev pub rowsOf : List (List ℕ) → ℕ → List model.Row
 rowsOf copy count = map rowOf (take count copy)
 
 -- The copy begins with the rows.
-abbrev pub Holds : List (List ℕ) → List model.Row → Type 0
-Holds copy rs = rowsOf copy (length rs) ≡ rs
+abbrev pub BeginsWith : List (List ℕ) → List model.Row → Type 0
+BeginsWith copy rs = rowsOf copy (length rs) ≡ rs
 
--- Next rows and reply; a number that names no operation changes nothing and has the reply 0 0.
+-- Next rows and answer; a number that names no operation changes nothing and has the answer 0 0.
 abbrev pub nextBy : Option model.Operation → List model.Row → List model.Row
 nextBy none rs = rs
 nextBy (some o) rs = model.next o rs
 
-abbrev pub replyBy : Option model.Operation → List model.Row → model.Reply
-replyBy none rs = model.replied 0 0
-replyBy (some o) rs = model.reply o rs
+abbrev pub answerBy : Option model.Operation → List model.Row → model.Answer
+answerBy none rs = model.answering 0 0
+answerBy (some o) rs = model.answer o rs
 
-abbrev pub nextOf : Operation → List model.Row → List model.Row
-nextOf o rs = nextBy (operationOf o) rs
+abbrev pub nextNamed : Operation → List model.Row → List model.Row
+nextNamed o rs = nextBy (operationOf o) rs
 
-abbrev pub replyOf : Operation → List model.Row → model.Reply
-replyOf o rs = replyBy (operationOf o) rs
+abbrev pub answerNamed : Operation → List model.Row → model.Answer
+answerNamed o rs = answerBy (operationOf o) rs
 
 -- The place of the first row whose key is not below k, or the number of rows.
 abbrev pub positionOf : ℕ → List model.Row → ℕ
 positionOf k [] = 0
 positionOf k (r ∷ rs) = model.byOrder (r .key) k (suc (positionOf k rs)) 0 0
 
--- A place as replay is handed it: where the operation may have a key, the key's position. A stack's operations, numbers 1 to 3, have none.
+-- A place as replay is handed it: where the operation may have a key, the key's position. A stack's operations, numbers
+-- 1 to 3, have none.
 abbrev pub Placed : Operation → List model.Row → ℕ → Type 0
 Placed o rs at = 4 ≤ o .number → at ≡ positionOf (o .key) rs
 

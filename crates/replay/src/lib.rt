@@ -1,19 +1,23 @@
 // Replay of one operation on a copy of an object's rows: 64 pairs by value, handed through and handed back.
+use operations::Answer;
 use operations::Operation;
-use operations::Reply;
 ghost use mathlib.Core.Path.{_≡_};
 ghost use mathlib.Core.List.{[], _∷_, _++_, map};
 ghost use Prim.Native.Nat.{_+_, _-_, _<_, _≤_};
 ghost use lib.ListN.{length, take};
+ghost use Rattle.operations.specs.Operations.{rowLimit};
 ghost use Rattle.operations.specs.Operations.{row, flag as Flag, valued, topItem, found, present as Present};
 ghost use Rattle.operations.specs.Operations.{inserted as Inserted, deleted as Deleted, modified as Modified};
-ghost use Rattle.operations.specs.Stored.{asReply};
-ghost use Rattle.replay.specs.Replay.{nextOf, replyOf, rowOf, rowsOf, Holds, Placed};
+ghost use Rattle.operations.specs.Stored.{answerOf};
+ghost use Rattle.replay.specs.Replay.{nextNamed, answerNamed, rowOf, rowsOf, BeginsWith, Placed};
 ghost use Rattle.replay.specs.Replay.{positionOf, putAt, removedAt};
 
+// The rows that an object has room for, and the copy.
+pub const ROWS: usize = 64;
+
 // The place of the first key that is not below `key`, or the number of rows.
-fn position(rows: &[[u32; 2]; 64], count: usize, key: u32) -> usize
-    requires { ⌜ count ≤ 64 ⌝ }
+fn position(rows: &[[u32; 2]; ROWS], count: usize, key: u32) -> usize
+    requires { ⌜ count ≤ rowLimit ⌝ }
     ensures { λ r. ⌜ r ≡ positionOf key (rowsOf (now (rows .entry)) count) ⌝ }
 {
     let whole = &rows[..];
@@ -29,11 +33,11 @@ fn position(rows: &[[u32; 2]; 64], count: usize, key: u32) -> usize
 }
 
 // The place for an operation: its key is looked up once, and what replays it is handed the place.
-pub fn place(rows: &[[u32; 2]; 64], count: usize, operation: Operation) -> usize
-    requires { ⌜ count ≤ 64 ⌝ }
+pub fn place(rows: &[[u32; 2]; ROWS], count: usize, operation: Operation) -> usize
+    requires { ⌜ count ≤ rowLimit ⌝ }
     ensures { λ r. ⌜ Placed operation (rowsOf (now (rows .entry)) count) r ⌝ }
 {
-    if operation.number < 4 {
+    if operation.number < operations::SET_INSERT {
         return 0;
     }
     position(rows, count, operation.key)
@@ -51,8 +55,8 @@ fn present(rows: &[[u32; 2]], at: usize, key: u32) -> bool
 }
 
 // Puts the pair in at a place; the row there and those after it move up.
-fn open_at(rows: &mut [[u32; 2]; 64], count: usize, at: usize, pair: [u32; 2])
-    requires { ⌜ (at ≤ count) × (count < 64) × (length (now rows) ≡ 64) ⌝ }
+fn open_at(rows: &mut [[u32; 2]; ROWS], count: usize, at: usize, pair: [u32; 2])
+    requires { ⌜ (at ≤ count) × (count < rowLimit) × (length (now rows) ≡ rowLimit) ⌝ }
     ensures { λ r. ⌜ take (count + 1) (now (rows .exit)) ≡ putAt at pair (take count (now (rows .entry))) ⌝ }
 {
     let mut carried = pair;
@@ -67,8 +71,8 @@ fn open_at(rows: &mut [[u32; 2]; 64], count: usize, at: usize, pair: [u32; 2])
 }
 
 // Leaves out the row at a place; those after it move down.
-fn close_at(rows: &mut [[u32; 2]; 64], count: usize, at: usize)
-    requires { ⌜ (at < count) × (count ≤ 64) × (length (now rows) ≡ 64) ⌝ }
+fn close_at(rows: &mut [[u32; 2]; ROWS], count: usize, at: usize)
+    requires { ⌜ (at < count) × (count ≤ rowLimit) × (length (now rows) ≡ rowLimit) ⌝ }
     ensures { λ r. ⌜ take (count - 1) (now (rows .exit)) ≡ removedAt at (take count (now (rows .entry))) ⌝ }
 {
     let mut i = at;
@@ -79,19 +83,19 @@ fn close_at(rows: &mut [[u32; 2]; 64], count: usize, at: usize)
     }
 }
 
-fn push(rows: [[u32; 2]; 64], count: usize, item: u32) -> [[u32; 2]; 64]
-    requires { ⌜ count < 64 ⌝ }
-    ensures { λ r. ⌜ Holds r (rowsOf rows count ++ (row item 0 ∷ [])) ⌝ }
+fn push(rows: [[u32; 2]; ROWS], count: usize, item: u32) -> [[u32; 2]; ROWS]
+    requires { ⌜ count < rowLimit ⌝ }
+    ensures { λ r. ⌜ BeginsWith r (rowsOf rows count ++ (row item 0 ∷ [])) ⌝ }
 {
     let mut rows = rows;
     rows[count] = [item, 0];
     rows
 }
 
-fn insert(rows: [[u32; 2]; 64], count: usize, at: usize, key: u32, value: u32) -> [[u32; 2]; 64]
-    requires { ⌜ (count ≤ 64) × (length (Inserted key value (rowsOf rows count)) ≤ 64)
+fn insert(rows: [[u32; 2]; ROWS], count: usize, at: usize, key: u32, value: u32) -> [[u32; 2]; ROWS]
+    requires { ⌜ (count ≤ rowLimit) × (length (Inserted key value (rowsOf rows count)) ≤ rowLimit)
         × (at ≡ positionOf key (rowsOf rows count)) ⌝ }
-    ensures { λ r. ⌜ Holds r (Inserted key value (rowsOf rows count)) ⌝ }
+    ensures { λ r. ⌜ BeginsWith r (Inserted key value (rowsOf rows count)) ⌝ }
 {
     let mut rows = rows;
     if !present(&rows[..count], at, key) {
@@ -100,9 +104,9 @@ fn insert(rows: [[u32; 2]; 64], count: usize, at: usize, key: u32, value: u32) -
     rows
 }
 
-fn delete(rows: [[u32; 2]; 64], count: usize, at: usize, key: u32) -> [[u32; 2]; 64]
-    requires { ⌜ (count ≤ 64) × (at ≡ positionOf key (rowsOf rows count)) ⌝ }
-    ensures { λ r. ⌜ Holds r (Deleted key (rowsOf rows count)) ⌝ }
+fn delete(rows: [[u32; 2]; ROWS], count: usize, at: usize, key: u32) -> [[u32; 2]; ROWS]
+    requires { ⌜ (count ≤ rowLimit) × (at ≡ positionOf key (rowsOf rows count)) ⌝ }
+    ensures { λ r. ⌜ BeginsWith r (Deleted key (rowsOf rows count)) ⌝ }
 {
     let mut rows = rows;
     if present(&rows[..count], at, key) {
@@ -111,9 +115,9 @@ fn delete(rows: [[u32; 2]; 64], count: usize, at: usize, key: u32) -> [[u32; 2];
     rows
 }
 
-fn modify(rows: [[u32; 2]; 64], count: usize, at: usize, key: u32, value: u32) -> [[u32; 2]; 64]
-    requires { ⌜ (count ≤ 64) × (at ≡ positionOf key (rowsOf rows count)) ⌝ }
-    ensures { λ r. ⌜ Holds r (Modified key value (rowsOf rows count)) ⌝ }
+fn modify(rows: [[u32; 2]; ROWS], count: usize, at: usize, key: u32, value: u32) -> [[u32; 2]; ROWS]
+    requires { ⌜ (count ≤ rowLimit) × (at ≡ positionOf key (rowsOf rows count)) ⌝ }
+    ensures { λ r. ⌜ BeginsWith r (Modified key value (rowsOf rows count)) ⌝ }
 {
     let mut rows = rows;
     if present(&rows[..count], at, key) {
@@ -125,45 +129,46 @@ fn modify(rows: [[u32; 2]; 64], count: usize, at: usize, key: u32, value: u32) -
 // The rows after the operation, which the copy has room for. Pairs past the new count are left free: a pop only lowers
 // the count.
 pub fn next_rows(
-    rows: [[u32; 2]; 64],
+    rows: [[u32; 2]; ROWS],
     count: usize,
     at: usize,
     operation: Operation,
-) -> [[u32; 2]; 64]
-    requires { ⌜ (count ≤ 64) × (length (nextOf operation (rowsOf rows count)) ≤ 64)
+) -> [[u32; 2]; ROWS]
+    requires { ⌜ (count ≤ rowLimit) × (length (nextNamed operation (rowsOf rows count)) ≤ rowLimit)
         × Placed operation (rowsOf rows count) at ⌝ }
-    ensures { λ r. ⌜ rowsOf r (length (nextOf operation (rowsOf rows count))) ≡ nextOf operation (rowsOf rows count) ⌝ }
+    ensures { λ r. ⌜ rowsOf r (length (nextNamed operation (rowsOf rows count)))
+        ≡ nextNamed operation (rowsOf rows count) ⌝ }
 {
     let number = operation.number;
     let key = operation.key;
     match number {
-        1 => push(rows, count, key),
-        4 => insert(rows, count, at, key, 0),
-        5 | 8 => delete(rows, count, at, key),
-        7 => insert(rows, count, at, key, operation.value),
-        11 => modify(rows, count, at, key, operation.value),
+        operations::PUSH => push(rows, count, key),
+        operations::SET_INSERT => insert(rows, count, at, key, 0),
+        operations::SET_DELETE | operations::TABLE_DELETE => delete(rows, count, at, key),
+        operations::TABLE_INSERT => insert(rows, count, at, key, operation.value),
+        operations::MODIFY => modify(rows, count, at, key, operation.value),
         _ => rows,
     }
 }
 
 // How many rows there are after the operation.
-pub fn next_count(rows: &[[u32; 2]; 64], count: usize, at: usize, operation: Operation) -> usize
-    requires { ⌜ (count ≤ 64) × Placed operation (rowsOf (now rows) count) at ⌝ }
-    ensures { λ r. ⌜ r ≡ length (nextOf operation (rowsOf (now (rows .entry)) count)) ⌝ }
+pub fn next_count(rows: &[[u32; 2]; ROWS], count: usize, at: usize, operation: Operation) -> usize
+    requires { ⌜ (count ≤ rowLimit) × Placed operation (rowsOf (now rows) count) at ⌝ }
+    ensures { λ r. ⌜ r ≡ length (nextNamed operation (rowsOf (now (rows .entry)) count)) ⌝ }
 {
     let whole = &rows[..];
     let filled = &whole[..count];
     let number = operation.number;
     let key = operation.key;
     match number {
-        1 => count + 1,
-        2 => if count == 0 { 0 } else { count - 1 },
-        4 | 7 => if present(filled, at, key) {
+        operations::PUSH => count + 1,
+        operations::POP => if count == 0 { 0 } else { count - 1 },
+        operations::SET_INSERT | operations::TABLE_INSERT => if present(filled, at, key) {
             count
         } else {
             count + 1
         },
-        5 | 8 => if present(filled, at, key) {
+        operations::SET_DELETE | operations::TABLE_DELETE => if present(filled, at, key) {
             count - 1
         } else {
             count
@@ -173,61 +178,64 @@ pub fn next_count(rows: &[[u32; 2]; 64], count: usize, at: usize, operation: Ope
 }
 
 // `1 0` or `0 0`.
-fn flag(b: bool) -> Reply
-    ensures { λ r. ⌜ asReply r ≡ Flag b ⌝ }
+fn flag(b: bool) -> Answer
+    ensures { λ r. ⌜ answerOf r ≡ Flag b ⌝ }
 {
     if b {
-        return Reply { code: 1, value: 0 };
+        return Answer { code: 1, value: 0 };
     }
-    Reply { code: 0, value: 0 }
+    Answer { code: 0, value: 0 }
 }
 
-fn top(rows: &[[u32; 2]]) -> Reply
-    ensures { λ r. ⌜ asReply r ≡ valued (topItem (map rowOf (now (rows .entry)))) ⌝ }
+fn top(rows: &[[u32; 2]]) -> Answer
+    ensures { λ r. ⌜ answerOf r ≡ valued (topItem (map rowOf (now (rows .entry)))) ⌝ }
 {
     let count = rows.len();
     if count == 0 {
-        return Reply { code: 0, value: 0 };
+        return Answer { code: 0, value: 0 };
     }
-    Reply {
+    Answer {
         code: 1,
         value: rows[count - 1][0],
     }
 }
 
 // The value in the key's row, whose position is given.
-fn lookup(rows: &[[u32; 2]], at: usize, key: u32) -> Reply
+fn lookup(rows: &[[u32; 2]], at: usize, key: u32) -> Answer
     requires { ⌜ at ≡ positionOf key (map rowOf (now rows)) ⌝ }
-    ensures { λ r. ⌜ asReply r ≡ valued (found key (map rowOf (now (rows .entry)))) ⌝ }
+    ensures { λ r. ⌜ answerOf r ≡ valued (found key (map rowOf (now (rows .entry)))) ⌝ }
 {
     if present(rows, at, key) {
-        return Reply {
+        return Answer {
             code: 1,
             value: rows[at][1],
         };
     }
-    Reply { code: 0, value: 0 }
+    Answer { code: 0, value: 0 }
 }
 
-// What the operation replies.
-pub fn reply(rows: &[[u32; 2]; 64], count: usize, at: usize, operation: Operation) -> Reply
-    requires { ⌜ (count ≤ 64) × Placed operation (rowsOf (now rows) count) at ⌝ }
-    ensures { λ r. ⌜ asReply r ≡ replyOf operation (rowsOf (now (rows .entry)) count) ⌝ }
+// What the operation answers.
+pub fn answer(rows: &[[u32; 2]; ROWS], count: usize, at: usize, operation: Operation) -> Answer
+    requires { ⌜ (count ≤ rowLimit) × Placed operation (rowsOf (now rows) count) at ⌝ }
+    ensures { λ r. ⌜ answerOf r ≡ answerNamed operation (rowsOf (now (rows .entry)) count) ⌝ }
 {
     let whole = &rows[..];
     let filled = &whole[..count];
     let number = operation.number;
     let key = operation.key;
     match number {
-        1 | 4 => Reply { code: 1, value: 0 },
-        2 | 3 => top(filled),
-        5 | 6 | 8 | 11 => flag(present(filled, at, key)),
-        7 => flag(!present(filled, at, key)),
-        9 => lookup(filled, at, key),
-        10 => Reply {
+        operations::PUSH | operations::SET_INSERT => Answer { code: 1, value: 0 },
+        operations::POP | operations::TOP => top(filled),
+        operations::SET_DELETE
+        | operations::MEMBER
+        | operations::TABLE_DELETE
+        | operations::MODIFY => { flag(present(filled, at, key)) }
+        operations::TABLE_INSERT => flag(!present(filled, at, key)),
+        operations::LOOKUP => lookup(filled, at, key),
+        operations::SIZE => Answer {
             code: 1,
             value: count as u32,
         },
-        _ => Reply { code: 0, value: 0 },
+        _ => Answer { code: 0, value: 0 },
     }
 }

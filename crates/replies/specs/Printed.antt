@@ -3,11 +3,11 @@ use Prim.Native.Nat.{ℕ}
 use Prim.Native.Char.{code}
 use mathlib.Core.List.{List, [], _∷_, _++_}
 use lib.ListN.{take}
-use Rattle.protocol.specs.Replies.{Response, ok, answered, wait, finished, committed, circle, cancelled, counted, refused}
+use Rattle.protocol.specs.Replies.{Reply, ok, answered, wait, finished, committed, circle, cancelled, counted, refused}
 use Rattle.text.specs.Text.{ascii, decimal}
 
 -- The twin of contents has no letter: no script's line is answered with how many rows were counted.
-abbrev pub wordOf : Response → List ℕ
+abbrev pub wordOf : Reply → List ℕ
 wordOf ok = ascii "ok"
 wordOf (answered reply) = ascii "answer"
 wordOf (wait owner) = ascii "wait"
@@ -19,21 +19,21 @@ wordOf (counted rows) = ascii "counted"
 wordOf (refused reason) = ascii "refused"
 
 -- The numbers behind the word; those that committed stand at the front of the list.
-abbrev pub numbersOf : Response → List ℕ → List ℕ
-numbersOf ok list = []
-numbersOf (answered reply) list = reply .code ∷ reply .value ∷ []
-numbersOf (wait owner) list = owner ∷ []
-numbersOf finished list = []
-numbersOf (committed count) list = take count list
-numbersOf (circle count) list = take count list
-numbersOf (cancelled count) list = take count list
-numbersOf (counted rows) list = rows ∷ []
-numbersOf (refused reason) list = reason ∷ []
+abbrev pub printedNumbers : Reply → List ℕ → List ℕ
+printedNumbers ok list = []
+printedNumbers (answered reply) list = reply .code ∷ reply .value ∷ []
+printedNumbers (wait owner) list = owner ∷ []
+printedNumbers finished list = []
+printedNumbers (committed count) list = take count list
+printedNumbers (circle count) list = take count list
+printedNumbers (cancelled count) list = take count list
+printedNumbers (counted rows) list = rows ∷ []
+printedNumbers (refused reason) list = reason ∷ []
 
 -- Numbers, a space before each.
 abbrev pub spaced : List ℕ → List ℕ
 spaced [] = []
 spaced (n ∷ numbers) = code " " ∷ (decimal n ++ spaced numbers)
 
-unfoldable pub printed : Response → List ℕ → List ℕ
-printed reply list = wordOf reply ++ spaced (numbersOf reply list)
+unfoldable pub printed : Reply → List ℕ → List ℕ
+printed reply list = wordOf reply ++ spaced (printedNumbers reply list)

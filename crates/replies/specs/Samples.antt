@@ -3,18 +3,18 @@ use Prim.Native.Nat.{ℕ}
 use Prim.Native.String.{String}
 use mathlib.Core.Path.{_≡_, refl}
 use mathlib.Core.List.{List, [], _∷_}
-use Rattle.operations.specs.Operations.{replied}
-use Rattle.protocol.specs.Replies.{Response, ok, answered, wait, finished, committed, circle, cancelled, refused}
+use Rattle.operations.specs.Operations.{answering}
+use Rattle.protocol.specs.Replies.{Reply, ok, answered, wait, finished, committed, circle, cancelled, refused}
 use Rattle.text.specs.Text.{ascii, decimalWithin, decimal}
 use Rattle.replies.specs.Printed.{printed}
 
-abbrev pub Prints : Response → List ℕ → String → Type 0
+abbrev pub Prints : Reply → List ℕ → String → Type 0
 Prints reply list text = printed reply list ≡ ascii text
 
 pub replies : Prints ok [] "ok"
     × Prints ok (1 ∷ 2 ∷ []) "ok"
-    × Prints (answered (replied 1 4_294_967_295)) [] "answer 1 4294967295"
-    × Prints (answered (replied 0 0)) [] "answer 0 0"
+    × Prints (answered (answering 1 4_294_967_295)) [] "answer 1 4294967295"
+    × Prints (answered (answering 0 0)) [] "answer 0 0"
     × Prints (wait 63) [] "wait 63"
     × Prints finished (0 ∷ 0 ∷ []) "finished"
     × Prints (committed 2) (0 ∷ 1 ∷ 0 ∷ 0 ∷ []) "committed 0 1"

@@ -1,15 +1,16 @@
 // A reply, put into a buffer as it is printed.
-use scheduler::Response;
+use protocol::Reply;
 ghost use mathlib.Core.Path.{_≡_};
 ghost use mathlib.Core.List.{[], _∷_};
 ghost use Prim.Native.Nat.{_+_, _*_, _≤_, min};
 ghost use lib.ListN.{length, take};
-ghost use Rattle.scheduler.specs.Responses.{responseOf};
+ghost use Rattle.protocol.specs.ReplyOf.{replyOf};
 ghost use Rattle.text.specs.Fields.{Put};
-ghost use Rattle.replies.specs.Printed.{wordOf, numbersOf, spaced, printed};
+ghost use Rattle.replies.specs.Printed.{wordOf, printedNumbers, spaced, printed};
 
-// The most bytes of a reply with its line feed: `committed` and 64 bytes of the list, each a space and three digits at most.
-pub const MOST: usize = 266;
+// The most bytes of a reply with its line feed, 266: `committed` and the bytes of the list, each a space and three
+// digits at most.
+pub const MOST: usize = 9 + 4 * layout::LIST + 1;
 
 // Puts a number behind a space.
 fn put_field(out: &mut [u8], at: usize, number: u32) -> usize
@@ -35,7 +36,8 @@ fn wide(byte: u8) -> u32
 // Puts the numbers at the front of a list.
 fn put_front(out: &mut [u8], at: usize, list: &[u8], count: u32) -> usize
     requires { ⌜ at + 4 * length (now list) ≤ length (now out) ⌝ }
-    ensures { λ r. ⌜ Put (now (out .entry)) at (spaced (take count (now (list .entry)))) (now (out .exit)) r × (r ≤ at + 4 * length (now (list .entry))) ⌝ }
+    ensures { λ r. ⌜ Put (now (out .entry)) at (spaced (take count (now (list .entry)))) (now (out .exit)) r
+        × (r ≤ at + 4 * length (now (list .entry))) ⌝ }
 {
     let front = least(count as usize, list.len());
     let mut end = at;
@@ -45,49 +47,52 @@ fn put_front(out: &mut [u8], at: usize, list: &[u8], count: u32) -> usize
     end
 }
 
-fn put_word(out: &mut [u8], at: usize, response: Response) -> usize
+fn put_word(out: &mut [u8], at: usize, reply: Reply) -> usize
     requires { ⌜ at + 9 ≤ length (now out) ⌝ }
-    ensures { λ r. ⌜ Put (now (out .entry)) at (wordOf (responseOf response)) (now (out .exit)) r ⌝ }
+    ensures { λ r. ⌜ Put (now (out .entry)) at (wordOf (replyOf reply)) (now (out .exit)) r ⌝ }
 {
-    match response {
-        Response::Ok => text::put(out, at, b"ok"),
-        Response::Answered(_, _) => text::put(out, at, b"answer"),
-        Response::Wait(_) => text::put(out, at, b"wait"),
-        Response::Finished => text::put(out, at, b"finished"),
-        Response::Committed(_) => text::put(out, at, b"committed"),
-        Response::Circle(_) => text::put(out, at, b"circle"),
-        Response::Cancelled(_) => text::put(out, at, b"cancelled"),
-        Response::Counted(_) => text::put(out, at, b"counted"),
-        Response::Refused(_) => text::put(out, at, b"refused"),
+    match reply {
+        Reply::Ok => text::put(out, at, b"ok"),
+        Reply::Answered(_, _) => text::put(out, at, b"answer"),
+        Reply::Wait(_) => text::put(out, at, b"wait"),
+        Reply::Finished => text::put(out, at, b"finished"),
+        Reply::Committed(_) => text::put(out, at, b"committed"),
+        Reply::Circle(_) => text::put(out, at, b"circle"),
+        Reply::Cancelled(_) => text::put(out, at, b"cancelled"),
+        Reply::Counted(_) => text::put(out, at, b"counted"),
+        Reply::Refused(_) => text::put(out, at, b"refused"),
     }
 }
 
 // Puts the numbers behind the word.
-fn put_numbers(out: &mut [u8], at: usize, response: Response, list: &[u8]) -> usize
+fn put_numbers(out: &mut [u8], at: usize, reply: Reply, list: &[u8]) -> usize
     requires { ⌜ (at + 256 ≤ length (now out)) × (length (now list) ≤ 64) ⌝ }
-    ensures { λ r. ⌜ Put (now (out .entry)) at (spaced (numbersOf (responseOf response) (now (list .entry)))) (now (out .exit)) r × (r ≤ at + 256) ⌝ }
+    ensures { λ r. ⌜ Put (now (out .entry)) at (spaced (printedNumbers (replyOf reply) (now (list .entry))))
+        (now (out .exit)) r
+        × (r ≤ at + 256) ⌝ }
 {
-    match response {
-        Response::Ok => at,
-        Response::Answered(code, value) => {
+    match reply {
+        Reply::Ok => at,
+        Reply::Answered(code, value) => {
             let end = put_field(out, at, code);
             put_field(out, end, value)
         }
-        Response::Wait(owner) => put_field(out, at, owner),
-        Response::Finished => at,
-        Response::Committed(count) => put_front(out, at, list, count),
-        Response::Circle(count) => put_front(out, at, list, count),
-        Response::Cancelled(count) => put_front(out, at, list, count),
-        Response::Counted(rows) => put_field(out, at, rows),
-        Response::Refused(reason) => put_field(out, at, reason),
+        Reply::Wait(owner) => put_field(out, at, owner),
+        Reply::Finished => at,
+        Reply::Committed(count) => put_front(out, at, list, count),
+        Reply::Circle(count) => put_front(out, at, list, count),
+        Reply::Cancelled(count) => put_front(out, at, list, count),
+        Reply::Counted(rows) => put_field(out, at, rows),
+        Reply::Refused(reason) => put_field(out, at, reason),
     }
 }
 
 // Puts a reply without its line feed.
-pub fn put_reply(out: &mut [u8], at: usize, response: Response, list: &[u8]) -> usize
+pub fn put_reply(out: &mut [u8], at: usize, reply: Reply, list: &[u8]) -> usize
     requires { ⌜ (at + 265 ≤ length (now out)) × (length (now list) ≤ 64) ⌝ }
-    ensures { λ r. ⌜ Put (now (out .entry)) at (printed (responseOf response) (now (list .entry))) (now (out .exit)) r × (r ≤ at + 265) ⌝ }
+    ensures { λ r. ⌜ Put (now (out .entry)) at (printed (replyOf reply) (now (list .entry))) (now (out .exit)) r
+        × (r ≤ at + 265) ⌝ }
 {
-    let end = put_word(out, at, response);
-    put_numbers(out, end, response, list)
+    let end = put_word(out, at, reply);
+    put_numbers(out, end, reply, list)
 }

@@ -4,30 +4,31 @@ use mathlib.Core.Path.{_≡_}
 use mathlib.Core.List.{List}
 use lib.ListN.{length, getD}
 use Rattle.operations.specs.Operations.{kindOf}
+use Rattle.store.specs.Layout.{BookLong}
 use Rattle.store.specs.Layout.{word, entryStart, operationAt, AsStored}
 
 -- ---- Entries by index
 
-abbrev pub transactionAt : List ℕ → ℕ → ℕ
-transactionAt w i = word w (entryStart i)
+abbrev pub entryTransaction : List ℕ → ℕ → ℕ
+entryTransaction w i = word w (entryStart i)
 
-abbrev pub objectAt : List ℕ → ℕ → ℕ
-objectAt w i = word w (entryStart i + 1)
+abbrev pub entryObject : List ℕ → ℕ → ℕ
+entryObject w i = word w (entryStart i + 1)
 
-abbrev pub numberAt : List ℕ → ℕ → ℕ
-numberAt w i = word w (entryStart i + 2)
+abbrev pub entryNumber : List ℕ → ℕ → ℕ
+entryNumber w i = word w (entryStart i + 2)
 
-abbrev pub keyAt : List ℕ → ℕ → ℕ
-keyAt w i = word w (entryStart i + 3)
+abbrev pub entryKey : List ℕ → ℕ → ℕ
+entryKey w i = word w (entryStart i + 3)
 
 -- What words hold whose log is read by index: from `Packed`, `EntriesLive` and `EntriesFit`.
 pub record Readable (w : List ℕ) : Type 0 where
-  pub words : length w ≡ 3_937
+  pub words : BookLong w
   pub entries : word w 0 ≤ 256
   pub stored : (i : ℕ) → i < word w 0 → AsStored w i
-  pub transactions : (i : ℕ) → i < word w 0 → transactionAt w i < 64
-  pub objects : (i : ℕ) → i < word w 0 → objectAt w i < 16
-  pub kinds : (i j : ℕ) → i < word w 0 → j < word w 0 → objectAt w j ≡ objectAt w i
+  pub transactions : (i : ℕ) → i < word w 0 → entryTransaction w i < 64
+  pub objects : (i : ℕ) → i < word w 0 → entryObject w i < 16
+  pub kinds : (i j : ℕ) → i < word w 0 → j < word w 0 → entryObject w j ≡ entryObject w i
       → kindOf (operationAt w j) ≡ kindOf (operationAt w i)
 
 -- Entry i is in a log that can be read.
@@ -38,7 +39,7 @@ InLog w i = Readable w × (i < word w 0)
 
 -- Entry j has the object and key of entry i.
 abbrev pub Alike : List ℕ → ℕ → ℕ → Type 0
-Alike w i j = (objectAt w j ≡ objectAt w i) × (keyAt w j ≡ keyAt w i)
+Alike w i j = (entryObject w j ≡ entryObject w i) × (entryKey w j ≡ entryKey w i)
 
 -- No entry before entry j is like it.
 abbrev pub First : List ℕ → ℕ → Type 0
@@ -58,32 +59,32 @@ pub record Represented (w : List ℕ) (n : ℕ) (representatives : List ℕ) : T
 -- ---- Chains
 
 -- On the way down from n: entry p - 1 is P, or p is 0, and no entry from p on is Q.
-pub record Reached (P Q : ℕ → Type 0) (n p : ℕ) : Type 0 where
+pub record DownTo (P Q : ℕ → Type 0) (n p : ℕ) : Type 0 where
   pub within : p ≤ n
   pub such : (j : ℕ) → p ≡ j + 1 → P j
   pub later : (j : ℕ) → p ≤ j → j < n → Q j → ⊥
 
 -- The latest entry below n that is P is entry p - 1; none is, where p is 0.
 abbrev pub Latest : (ℕ → Type 0) → ℕ → ℕ → Type 0
-Latest P n p = Reached P P n p
+Latest P n p = DownTo P P n p
 
 -- The chain of an object and key. Any numbers below 256 would do.
 unfoldable pub slotOf : ℕ → ℕ → ℕ
 slotOf object key = (key % 256 + 16 * object) % 256
 
 abbrev pub slotAt : List ℕ → ℕ → ℕ
-slotAt w i = slotOf (objectAt w i) (keyAt w i)
+slotAt w i = slotOf (entryObject w i) (entryKey w i)
 
 -- Entry j is in a chain: one that is the first with its object and key.
-abbrev pub In : List ℕ → ℕ → ℕ → Type 0
-In w s j = First w j × (slotAt w j ≡ s)
+abbrev pub InChain : List ℕ → ℕ → ℕ → Type 0
+InChain w s j = First w j × (slotAt w j ≡ s)
 
 -- The latest entry of each chain, and at j + 1 the one before entry j in its chain.
 pub record Chained (w : List ℕ) (n : ℕ) (heads links : List ℕ) : Type 0 where
   pub chains : length heads ≡ 256
   pub entries : length links ≡ 257
-  pub latest : (s : ℕ) → s < 256 → Latest (In w s) n (getD heads s 0)
-  pub before : (j : ℕ) → j < n → First w j → Latest (In w (slotAt w j)) j (getD links (j + 1) 0)
+  pub latest : (s : ℕ) → s < 256 → Latest (InChain w s) n (getD heads s 0)
+  pub before : (j : ℕ) → j < n → First w j → Latest (InChain w (slotAt w j)) j (getD links (j + 1) 0)
 
 -- Entry j represents entry i, which is in the chains.
 abbrev pub RepresentedBy : List ℕ → ℕ → ℕ → List ℕ → List ℕ → Type 0

@@ -1,4 +1,5 @@
 // Entries of the log found again by object and key: the first entry with an object and key represents those like it.
+use layout::ENTRIES;
 ghost use mathlib.Core.Path.{_≡_};
 ghost use mathlib.Core.Bool.{true};
 ghost use mathlib.Core.Logic.{_↔_};
@@ -10,6 +11,15 @@ ghost use Rattle.representatives.specs.Representatives.{slotAt, Latest, 
 
 // A representative is in a chain: `heads` has the latest entry of each chain, `links` at `j + 1` the one before
 // entry `j`. Each is an entry's index plus one, or 0 for none.
+
+const CHAINS: usize = 256;
+
+const CHAIN_COUNT: u32 = CHAINS as u32;
+
+// How far apart the chains of two objects begin.
+const STRIDE: u32 = CHAIN_COUNT / layout::OBJECTS as u32;
+
+const LINKS: usize = ENTRIES + 1;
 
 // Whether two entries have one object and one key.
 fn alike(book: &[u32], i: usize, j: usize) -> bool
@@ -30,11 +40,13 @@ fn slot(book: &[u32], i: usize) -> usize
     ensures { λ r. ⌜ (r ≡ slotAt (now (book .entry)) i) × (r < 256) ⌝ }
 {
     let operation = layout::entry_operation(book, i);
-    layout::wide((operation.key % 256 + 16 * layout::entry_object(book, i)) % 256)
+    layout::wide(
+        (operation.key % CHAIN_COUNT + STRIDE * layout::entry_object(book, i)) % CHAIN_COUNT,
+    )
 }
 
 // The earlier entry that represents entry `i`.
-fn find(book: &[u32], i: usize, heads: &[u16; 256], links: &[u16; 257]) -> u16
+fn find(book: &[u32], i: usize, heads: &[u16; CHAINS], links: &[u16; LINKS]) -> u16
     requires { ⌜ InLog (now book) i × Chained (now book) i (now heads) (now links) ⌝ }
     ensures { λ r. ⌜ Latest (Representative (now (book .entry)) i) i r ⌝ }
 {
@@ -50,7 +62,7 @@ fn find(book: &[u32], i: usize, heads: &[u16; 256], links: &[u16; 257]) -> u16
 }
 
 // Entry `i`, the first with its object and key, becomes the latest of its chain.
-fn chain(book: &[u32], i: usize, heads: &mut [u16; 256], links: &mut [u16; 257])
+fn chain(book: &[u32], i: usize, heads: &mut [u16; CHAINS], links: &mut [u16; LINKS])
     requires { ⌜ InLog (now book) i × First (now book) i × Chained (now book) i (now heads) (now links) ⌝ }
     ensures { λ r. ⌜ Chained (now (book .entry)) (i + 1) (now (heads .exit)) (now (links .exit)) ⌝ }
 {
@@ -60,7 +72,7 @@ fn chain(book: &[u32], i: usize, heads: &mut [u16; 256], links: &mut [u16; 257])
 }
 
 // The entry that represents entry `i`: an earlier one, or itself, which is then put in its chain.
-fn represent(book: &[u32], i: usize, heads: &mut [u16; 256], links: &mut [u16; 257]) -> u16
+fn represent(book: &[u32], i: usize, heads: &mut [u16; CHAINS], links: &mut [u16; LINKS]) -> u16
     requires { ⌜ InLog (now book) i × Chained (now book) i (now heads) (now links) ⌝ }
     ensures { λ r. ⌜ RepresentedBy (now (book .entry)) i r (now (heads .exit)) (now (links .exit)) ⌝ }
 {
@@ -73,17 +85,17 @@ fn represent(book: &[u32], i: usize, heads: &mut [u16; 256], links: &mut [u16; 2
 }
 
 // The representative of each entry.
-pub fn all(book: &[u32]) -> [u16; 256]
+pub fn all(book: &[u32]) -> [u16; ENTRIES]
     requires { ⌜ Packed base (now book) × EntriesLive (decode base (now book)) × EntriesFit (decode base (now book)) ⌝ }
     ensures { λ r. ⌜ Represented (now (book .entry)) (word (now (book .entry)) 0) r ⌝ }
 {
     let count = layout::entry_count(book);
-    let mut found = [0u16; 256];
+    let mut found = [0u16; ENTRIES];
     if count == 0 {
         return found;
     }
-    let mut heads = [0u16; 256];
-    let mut links = [0u16; 257];
+    let mut heads = [0u16; CHAINS];
+    let mut links = [0u16; LINKS];
     for i in 0..count {
         found[i] = represent(book, i, &mut heads, &mut links);
     }

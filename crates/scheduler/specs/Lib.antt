@@ -1,2 +1,1 @@
-pub mod Responses
 pub mod Laws

@@ -4,12 +4,13 @@ use Prim.Native.String.{String}
 use mathlib.Core.Path.{_≡_, refl, ap, ap₂, _∙_}
 use mathlib.Core.Option.{some}
 use mathlib.Core.List.{List, [], _∷_, _++_, map}
-use lib.ListN.{length, replicate, length-replicate}
-use Rattle.protocol.specs.Replies.{Response, ok}
+use lib.ListN.{replicate, length-replicate}
+use Rattle.store.specs.Layout.{BookLong}
+use Rattle.protocol.specs.Replies.{Reply, ok}
 use Rattle.protocol.specs.Call.{Call, setUp, desk}
 use Rattle.history.specs.History.{Event}
 use Rattle.history.specs.Cases.{callsOf, wholeKinds, wholeCase}
-use Rattle.history.specs.Traces.{whole-case-trace}
+use Rattle.traces.specs.Traces.{whole-case-trace}
 use Rattle.text.specs.Text.{ascii, numberIn, decimalWithin, decimal}
 use Rattle.lines.specs.Lines.{callIn}
 use Rattle.replies.specs.Printed.{printed}
@@ -57,12 +58,13 @@ whole-printed : (list : List ℕ) → asLines (printed ok list ∷ map printedAt
 unfolding printed decimal decimalWithin
 whole-printed list = refl
 
-whole-from : (w : List ℕ) → length w ≡ 3_937 → asLines (replies w (linesIn (ascii wholeInput))) ≡ ascii wholeOutput
+whole-from : (w : List ℕ) → BookLong w → asLines (replies w (linesIn (ascii wholeInput))) ≡ ascii wholeOutput
 whole-from w l =
     let list : List ℕ = desk (setUp wholeKinds) w .outcome .list in
     let traced = whole-case-trace w l in
     ap asLines (replies-traced (linesIn (ascii wholeInput)) wholeCalls whole-read w)
-    ∙ ap₂ (λ (reply : Response) (events : List Event). asLines (printed reply list ∷ map printedAt events)) (traced .0) (traced .1)
+    ∙ ap₂ (λ (reply : Reply) (events : List Event). asLines (printed reply list ∷ map printedAt events)) (traced .0)
+    (traced .1)
     ∙ whole-printed list
 
 pub whole-case : script (ascii wholeInput) ≡ ascii wholeOutput

@@ -6,7 +6,7 @@ use mathlib.Core.Option.{Option}
 use mathlib.Core.List.{List, [], _∷_, _++_}
 use lib.ListN.{length, take, drop}
 use Rattle.protocol.specs.Call.{Call}
-use Rattle.scheduler.specs.Responses.{responseOf}
+use Rattle.protocol.specs.ReplyOf.{replyOf}
 use Rattle.text.specs.Text.{ascii}
 use Rattle.text.specs.Fields.{Put}
 use Rattle.replies.specs.Printed.{printed}
@@ -14,20 +14,21 @@ use Rattle.script.specs.Script.{LineServed, serving}
 use Rattle.script.specs.Sessions.{Session, session, Turn, taken}
 use Rattle.script.specs.declared.Progress.{Progress}
 use Rattle.script.specs.declared.Said.{Said}
-use Rattle.script.specs.declared.Said.the-variants.{Unread, Reply}
+use Rattle.script.specs.declared.Said.the-variants.{Unread, Read}
 
 -- What is said to a line, as it is printed. The list is lent to finish and cancel alone.
 abbrev pub saidText : Said → List ℕ → List ℕ
 saidText Unread list = ascii "unread"
-saidText (Reply response listed) list = printed (responseOf response) (take listed list)
+saidText (Read reply listed) list = printed (replyOf reply) (take listed list)
 
 abbrev pub listedBy : Said → ℕ
 listedBy Unread = 0
-listedBy (Reply response listed) = listed
+listedBy (Read reply listed) = listed
 
--- A request was served.
-abbrev pub RequestServed : Option Call → List ℕ → List ℕ → List ℕ → Said → Type 0
-RequestServed call w book list said = (record { book = book; text = saidText said list } ≡ serving call w) × (listedBy said ≤ 64)
+-- A call was served.
+abbrev pub CallServed : Option Call → List ℕ → List ℕ → List ℕ → Said → Type 0
+CallServed call w book list said =
+    (record { book = book; text = saidText said list } ≡ serving call w) × (listedBy said ≤ 64)
 
 -- A line was served, and its reply put at a place of a buffer.
 abbrev pub Replied : LineServed → List ℕ → List ℕ → ℕ → List ℕ → ℕ → Type 0
@@ -45,8 +46,10 @@ chunk block from to = take (to - from) (drop from block)
 abbrev pub Kept : List ℕ → List ℕ → List ℕ → ℕ → Type 0
 Kept line part after kept = (kept ≤ 178) × (take kept after ≡ take 178 (line ++ part)) × (length after ≡ 178)
 
--- A block was taken from one place to another, and what is to be printed for that put behind what was. How far it was taken is left to the code.
-pub record Took (s : Session) (block : List ℕ) (from : Progress) (book line out after : List ℕ) (to : Progress) : Type 0 where
+-- A block was taken from one place to another, and what is to be printed for that put behind what was. How far it was
+-- taken is left to the code.
+pub record Took (s : Session) (block : List ℕ) (from : Progress) (book line out after : List ℕ)
+    (to : Progress) : Type 0 where
   pub forward : from .at ≤ to .at
   pub within : to .at ≤ length block
   pub few : to .kept ≤ 178
@@ -61,14 +64,16 @@ begun kept = record { at = 0; kept = kept; written = 0 }
 abbrev pub Stopped : List ℕ → List ℕ → Progress → Type 0
 Stopped block out p = (p .at ≡ length block) ⊎ (length out < p .written + 266)
 
--- The program, up to where it waits for input: from a session, with what is left of the block that it read last and the blocks that it reads after that;
--- what it prints, and the session left.
+-- The program, up to where it waits for input: from a session, with what is left of the block that it read last and the
+-- blocks that it reads after that; what it prints, and the session left.
 pub data Fed : Session → List ℕ → List (List ℕ) → List ℕ → Session → Type 0 where
   waits : {s : Session} → Fed s [] [] [] s
   -- A block is read where nothing is left of the one before.
   reads : {s left : Session} {block printed : List ℕ} {blocks : List (List ℕ)} → Fed s block blocks printed left
       → Fed s [] (block ∷ blocks) printed left
-  -- `feed` is called with what is left of the block, and the front of the buffer printed. The next call goes on where this one ended.
-  feeds : {s left : Session} {block book line out after printed : List ℕ} {blocks : List (List ℕ)} {kept : ℕ} {p : Progress}
-      → Took s block (begun kept) book line out after p → Fed (session book (take (p .kept) line)) (drop (p .at) block) blocks printed left
+  -- `feed` is called with what is left of the block, and the front of the buffer printed. The next call goes on where
+  -- this one ended.
+  feeds : {s left : Session} {block book line out after printed : List ℕ} {blocks : List (List ℕ)} {kept : ℕ}
+      {p : Progress} → Took s block (begun kept) book line out after p
+      → Fed (session book (take (p .kept) line)) (drop (p .at) block) blocks printed left
       → Fed s block blocks (take (p .written) after ++ printed) left

@@ -4,6 +4,7 @@ use Prim.Native.Char.{code}
 use mathlib.Core.Option.{Option, none, some}
 use mathlib.Core.List.{List, [], _∷_, _++_, dropLast}
 use lib.ListN.{replicate}
+use Rattle.store.specs.Layout.{bookWords}
 use Rattle.protocol.specs.Call.{Call, desk}
 use Rattle.text.specs.Text.{ascii, split}
 use Rattle.lines.specs.Lines.{callIn}
@@ -49,7 +50,7 @@ asLines (text ∷ texts) = text ++ (code "\n" ∷ asLines texts)
 
 -- The book that a script begins with.
 abbrev pub zeros : List ℕ
-zeros = replicate 3_937 0
+zeros = replicate bookWords 0
 
 -- What the program prints.
 unfoldable pub script : List ℕ → List ℕ

@@ -31,7 +31,8 @@ printing text t = turn (t .after) (text ++ t .output)
 
 -- A line feed: the line is answered.
 abbrev pub lineEnded : Session → Turn
-lineEnded s = turn (session (lineServed (s .book) (s .line) .book) []) (lineServed (s .book) (s .line) .text ++ (code "\n" ∷ []))
+lineEnded s =
+    turn (session (lineServed (s .book) (s .line) .book) []) (lineServed (s .book) (s .line) .text ++ (code "\n" ∷ []))
 
 -- What bytes do, one after the other.
 abbrev pub taken : Session → List ℕ → Turn

@@ -5,7 +5,7 @@ use mathlib.Core.List.{List, [], _++_, append-nil, dropLast, flatten}
 use native.Mathlib.Omega.{arith}
 use lib.ListN.{length, take}
 use Rattle.script.specs.Script.{linesIn, endedLines, replies, asLines, zeros, script}
-use Rattle.script.specs.Sessions.{Session, Turn, opening, taken, closing, soFar, inBlocks}
+use Rattle.script.specs.Sessions.{Session, Turn, opening, taken, closing, inBlocks}
 use Rattle.script.specs.Feeding.{Turned, Fed}
 use Rattle.script.specs.Laws.Reading.{all-lines, last-left, closed-script, blocks-taken}
 use Rattle.script.specs.Laws.Running.{front-put, fed-taken}
@@ -13,21 +13,22 @@ use Rattle.script.specs.Laws.Lines.{replies-read, length-replies}
 
 -- However the input is cut into blocks, what is printed is the script's.
 pub in-blocks : (blocks : List (List ℕ)) → inBlocks opening blocks ≡ script (flatten blocks)
-in-blocks blocks = ap (λ (t : Turn). t .output ++ closing (t .after) .output) (blocks-taken opening blocks) ∙ closed-script (flatten blocks)
+in-blocks blocks =
+    ap (λ (t : Turn). t .output ++ closing (t .after) .output) (blocks-taken opening blocks)
+    ∙ closed-script (flatten blocks)
 
 -- Each line is answered as soon as it has ended: before more is read, what was read is answered.
 pub at-once : (input : List ℕ) → taken opening input .output ≡ asLines (replies zeros (endedLines input))
-at-once input = sym (append-nil (taken opening input .output)) ∙ all-lines (λ s. []) dropLast last-left (λ w line. refl) input
-
-pub blocks-at-once : (blocks : List (List ℕ)) → soFar opening blocks .output ≡ asLines (replies zeros (endedLines (flatten blocks)))
-blocks-at-once blocks = ap (λ (t : Turn). t .output) (blocks-taken opening blocks) ∙ at-once (flatten blocks)
+at-once input =
+    sym (append-nil (taken opening input .output)) ∙ all-lines (λ s. []) dropLast last-left (λ w line. refl) input
 
 -- Both hold of the calls that the program makes: where it waits for more, the lines that have ended are answered,
 pub fed-at-once : {blocks : List (List ℕ)} {printed : List ℕ} {left : Session} → Fed opening [] blocks printed left
     → printed ≡ asLines (replies zeros (endedLines (flatten blocks)))
 fed-at-once {blocks} fed = ap (λ (t : Turn). t .output) (sym (fed-taken fed)) ∙ at-once (flatten blocks)
 
--- and where `close` is called at the end of the input, and the front of its buffer printed, all that was printed is the script's.
+-- and where `end_input` is called at the end of the input, and the front of its buffer printed, all that was printed is
+-- the script's.
 pub runs : {blocks : List (List ℕ)} {printed : List ℕ} {left : Session} → Fed opening [] blocks printed left
     → {book out after : List ℕ} {end : ℕ} → 266 ≤ length out → Turned (closing left) book out 0 after end × (end ≤ 266)
     → printed ++ take end after ≡ script (flatten blocks)

@@ -1,6 +1,6 @@
 // A script served as its bytes come: each line answered on the book, each reply put into a buffer.
-use lines::Request;
-use scheduler::Response;
+use lines::Call;
+use protocol::Reply;
 ghost use mathlib.Core.Path.{_≡_};
 ghost use mathlib.Core.Bool.{true};
 ghost use mathlib.Core.Logic.{_↔_};
@@ -9,11 +9,12 @@ ghost use lib.ListN.{length, take};
 ghost use Rattle.script.specs.Script.{lineServed};
 ghost use Rattle.script.specs.Sessions.{session, lineEnded, closing};
 ghost use Rattle.lines.specs.Lines.{lent};
-ghost use Rattle.lines.specs.Requests.{requested};
-ghost use Rattle.script.specs.Feeding.{RequestServed, Replied, Turned, Kept, Took, begun, Stopped};
+ghost use Rattle.lines.specs.Coded.{callOf};
+ghost use Rattle.script.specs.Feeding.{CallServed, Replied, Turned, Kept, Took, begun, Stopped};
 
-// The bytes that are kept of a line: more than a call has, `S` with 16 kinds of ten digits.
-pub const LINE: usize = 178;
+// The bytes that are kept of a line, 178: one more than the longest call has, `S` with a kind for each object, each a
+// space and the most digits.
+pub const LINE: usize = 1 + (1 + text::MOST_DIGITS) * layout::OBJECTS + 1;
 
 const LINE_FEED: u8 = b'\n';
 
@@ -28,57 +29,55 @@ pub struct Progress {
 pub enum Said {
     Unread,
     // a call's reply, and how many bytes of the list are the call's
-    Reply(Response, usize),
+    Read(Reply, usize),
 }
 
-// Makes the call that a request is.
-fn serve(book: &mut [u32], request: Request, kinds: [u8; 16], list: &mut [u8]) -> Said
+// Makes the call that a call is.
+fn serve(book: &mut [u32], call: Call, kinds: [u8; layout::OBJECTS], list: &mut [u8]) -> Said
     requires { ⌜ now list ≡ lent ⌝ }
-    ensures { λ r. ⌜ RequestServed (requested request kinds) (now (book .entry)) (now (book .exit)) (now (list .exit)) r ⌝ }
+    ensures { λ r. ⌜ CallServed (callOf call kinds) (now (book .entry)) (now (book .exit)) (now (list .exit)) r ⌝ }
 {
-    match request {
-        Request::SetUp => Said::Reply(scheduler::set_up(book, &kinds), 0),
-        Request::Begin(transaction) => Said::Reply(scheduler::begin(book, transaction), 0),
-        Request::Operate(transaction, object, operation, key, value) => {
-            let response = scheduler::operate(book, transaction, object, operation, key, value);
-            Said::Reply(response, 0)
+    match call {
+        Call::SetUp => Said::Read(scheduler::set_up(book, &kinds), 0),
+        Call::Begin(transaction) => Said::Read(scheduler::begin(book, transaction), 0),
+        Call::Operate(transaction, object, operation, key, value) => {
+            let reply = scheduler::operate(book, transaction, object, operation, key, value);
+            Said::Read(reply, 0)
         }
-        Request::Finish(transaction) => {
-            Said::Reply(
-                scheduler::finish(book, transaction, list),
-                layout::TRANSACTIONS,
-            )
+        Call::Finish(transaction) => {
+            Said::Read(scheduler::finish(book, transaction, list), layout::LIST)
         }
-        Request::Cancel(transaction) => {
-            Said::Reply(
-                scheduler::cancel(book, transaction, list),
-                layout::TRANSACTIONS,
-            )
+        Call::Cancel(transaction) => {
+            Said::Read(scheduler::cancel(book, transaction, list), layout::LIST)
         }
-        Request::Unread => Said::Unread,
+        Call::Unread => Said::Unread,
     }
 }
 
 // Serves a line, and puts what is said into the buffer.
 fn reply(book: &mut [u32], line: &[u8], out: &mut [u8], at: usize) -> usize
     requires { ⌜ at + 265 ≤ length (now out) ⌝ }
-    ensures { λ r. ⌜ Replied (lineServed (now (book .entry)) (now (line .entry))) (now (book .exit)) (now (out .entry)) at (now (out .exit)) r × (r ≤ at + 265) ⌝ }
+    ensures { λ r. ⌜ Replied (lineServed (now (book .entry)) (now (line .entry))) (now (book .exit))
+        (now (out .entry)) at (now (out .exit)) r
+        × (r ≤ at + 265) ⌝ }
 {
     let read = lines::read_line(line);
-    let request = read.request;
+    let call = read.call;
     let kinds = read.kinds;
-    let mut list = [0u8; 64];
-    let said = serve(book, request, kinds, &mut list);
+    let mut list = [0u8; layout::LIST];
+    let said = serve(book, call, kinds, &mut list);
     match said {
         Said::Unread => text::put(out, at, b"unread"),
-        Said::Reply(response, listed) => { replies::put_reply(out, at, response, &list[..listed]) }
+        Said::Read(reply, listed) => { replies::put_reply(out, at, reply, &list[..listed]) }
     }
 }
 
 // Answers a line with a line.
 fn answer(book: &mut [u32], line: &[u8], out: &mut [u8], at: usize) -> usize
     requires { ⌜ at + 266 ≤ length (now out) ⌝ }
-    ensures { λ r. ⌜ Turned (lineEnded (session (now (book .entry)) (now (line .entry)))) (now (book .exit)) (now (out .entry)) at (now (out .exit)) r × (r ≤ at + 266) ⌝ }
+    ensures { λ r. ⌜ Turned (lineEnded (session (now (book .entry)) (now (line .entry)))) (now (book .exit))
+        (now (out .entry)) at (now (out .exit)) r
+        × (r ≤ at + 266) ⌝ }
 {
     let end = reply(book, line, out, at);
     text::put(out, end, b"\n")
@@ -104,8 +103,11 @@ fn take_line(
     out: &mut [u8],
     from: Progress,
 ) -> Progress
-    requires { ⌜ (length (now line) ≡ 178) × (from .kept ≤ 178) × (from .at < length (now block)) × (from .written + 266 ≤ length (now out)) ⌝ }
-    ensures { λ r. ⌜ Took (session (now (book .entry)) (take (from .kept) (now (line .entry)))) (now (block .entry)) from (now (book .exit)) (now (line .exit)) (now (out .entry)) (now (out .exit)) r × (from .at < r .at) ⌝ }
+    requires { ⌜ (length (now line) ≡ 178) × (from .kept ≤ 178)
+        × (from .at < length (now block)) × (from .written + 266 ≤ length (now out)) ⌝ }
+    ensures { λ r. ⌜ Took (session (now (book .entry)) (take (from .kept) (now (line .entry)))) (now (block .entry))
+        from (now (book .exit)) (now (line .exit)) (now (out .entry)) (now (out .exit)) r
+        × (from .at < r .at) ⌝ }
 {
     let at = from.at;
     let written = from.written;
@@ -142,7 +144,9 @@ pub fn feed(
     out: &mut [u8],
 ) -> Progress
     requires { ⌜ (length (now line) ≡ 178) × (kept ≤ 178) × (266 ≤ length (now out)) ⌝ }
-    ensures { λ r. ⌜ Took (session (now (book .entry)) (take kept (now (line .entry)))) (now (block .entry)) (begun kept) (now (book .exit)) (now (line .exit)) (now (out .entry)) (now (out .exit)) r × Stopped (now (block .entry)) (now (out .exit)) r ⌝ }
+    ensures { λ r. ⌜ Took (session (now (book .entry)) (take kept (now (line .entry)))) (now (block .entry))
+        (begun kept) (now (book .exit)) (now (line .exit)) (now (out .entry)) (now (out .exit)) r
+        × Stopped (now (block .entry)) (now (out .exit)) r ⌝ }
 {
     let mut progress = Progress {
         at: 0,
@@ -156,9 +160,11 @@ pub fn feed(
 }
 
 // The end of the input ends a line that was begun; how many bytes are to be printed.
-pub fn close(book: &mut [u32], line: &[u8], out: &mut [u8]) -> usize
+pub fn end_input(book: &mut [u32], line: &[u8], out: &mut [u8]) -> usize
     requires { ⌜ 266 ≤ length (now out) ⌝ }
-    ensures { λ r. ⌜ Turned (closing (session (now (book .entry)) (now (line .entry)))) (now (book .exit)) (now (out .entry)) 0 (now (out .exit)) r × (r ≤ 266) ⌝ }
+    ensures { λ r. ⌜ Turned (closing (session (now (book .entry)) (now (line .entry)))) (now (book .exit))
+        (now (out .entry)) 0 (now (out .exit)) r
+        × (r ≤ 266) ⌝ }
 {
     if line.len() == 0 {
         return 0;

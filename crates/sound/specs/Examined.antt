@@ -4,6 +4,7 @@ use mathlib.Core.Path.{_≡_}
 use mathlib.Core.List.{List}
 use lib.ListN.{length}
 use Rattle.bitset.specs.Bitset.{Holds, Represents}
+use Rattle.store.specs.Layout.{BookLong}
 use Rattle.store.specs.Store.{PseudoCommitted}
 use Rattle.store.specs.Layout.{base, decode}
 use Rattle.store.specs.Dependency.{DependsOn}
@@ -11,7 +12,7 @@ use Rattle.log.specs.Log.{LogBounded}
 
 -- The length, ranges and zeros of `Packed`, but for the words of entries.
 pub record Bounded (w : List ℕ) : Type 0 where
-  pub words : length w ≡ 3_937
+  pub words : BookLong w
   pub objects : base .ObjectsPacked w
   pub log : LogBounded w
 

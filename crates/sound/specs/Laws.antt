@@ -5,9 +5,9 @@ use mathlib.Core.Bool.{Bool, true, false, true≢false}
 use mathlib.Core.Logic.{_↔_}
 use mathlib.Core.List.{List}
 use native.Mathlib.Nat.{le-refl}
-use lib.ListN.{length}
 use Rattle.bitset.specs.Bitset.{Holds, Represents, In}
 use Rattle.operations.specs.Laws.Cases.{no, denied}
+use Rattle.store.specs.Layout.{BookLong}
 use Rattle.store.specs.Store.{Store, Live, PseudoCommitted}
 use Rattle.store.specs.Dependency.{DependsOn, Way, OnCycle}
 use Rattle.sound.specs.Examined.{Bounded}
@@ -21,10 +21,11 @@ pub refused : {b : Bool} {P Q : Type 0} → (b ≡ true) ↔ P → b ≡ false �
 refused decided fails part = no refl (λ q. denied decided fails (part q))
 
 -- So does one of an examined book, and nothing is then said of the sets.
-pub unsound : {b : Bool} {P Q R : Type 0} → (b ≡ true) ↔ P → b ≡ false → (Q → P) → ((false ≡ true) ↔ Q) × (false ≡ true → R)
+pub unsound : {b : Bool} {P Q R : Type 0} → (b ≡ true) ↔ P → b ≡ false → (Q → P)
+    → ((false ≡ true) ↔ Q) × (false ≡ true → R)
 unsound decided fails part = (refused decided fails part, λ e. absurd (true≢false (sym e)))
 
-pub of-another-length : (w : List ℕ) → (length w ≡ 3_937 → ⊥) → (false ≡ true) ↔ Bounded w
+pub of-another-length : (w : List ℕ) → (BookLong w → ⊥) → (false ≡ true) ↔ Bounded w
 of-another-length w other = no refl (λ (b : Bounded w). other (b .words))
 
 -- Where all but the last clause hold, the last decides.
@@ -32,11 +33,14 @@ pub last : {b : Bool} {P Q : Type 0} → (b ≡ true) ↔ P → (P → Q) → (Q
 last decided whole part = (λ e. whole (decided .0 e), λ q. decided .1 (part q))
 
 -- What the sets of dependency say is said of the store.
-module _ (s : Store) (sets : List ℕ) (finished : ℕ) (edges : Represents sets (DependsOn (s .log))) (members : Holds finished (PseudoCommitted s)) where
+module _ (s : Store) (sets : List ℕ) (finished : ℕ) (edges : Represents sets (DependsOn (s .log)))
+    (members : Holds finished (PseudoCommitted s)) where
   pub cycle-said : (t : ℕ) → Way (EdgeIn sets) (In finished) 64 t t ↔ OnCycle s t
   cycle-said t = (
-    way-monotone (EdgeIn sets) (DependsOn (s .log)) (In finished) (PseudoCommitted s) (λ a b. edges a b .0) (λ c. members c .0) 64 64 (le-refl 64) t t,
-    way-monotone (DependsOn (s .log)) (EdgeIn sets) (PseudoCommitted s) (In finished) (λ a b. edges a b .1) (λ c. members c .1) 64 64 (le-refl 64) t t,
+    way-monotone (EdgeIn sets) (DependsOn (s .log)) (In finished) (PseudoCommitted s) (λ a b. edges a b .0)
+        (λ c. members c .0) 64 64 (le-refl 64) t t,
+    way-monotone (DependsOn (s .log)) (EdgeIn sets) (PseudoCommitted s) (In finished) (λ a b. edges a b .1)
+        (λ c. members c .1) 64 64 (le-refl 64) t t,
   )
 
   pub acyclic-said : ((t : ℕ) → In finished t → Way (EdgeIn sets) (In finished) 64 t t → ⊥) ↔ Acyclic s

@@ -1,8 +1,10 @@
 // Whether a book is sound. Every call but set up asks this first.
+use layout::TRANSACTIONS;
 ghost use mathlib.Core.Path.{_≡_};
 ghost use mathlib.Core.Bool.{true};
 ghost use mathlib.Core.Logic.{_↔_};
 ghost use lib.ListN.{replicate};
+ghost use Rattle.store.specs.Store.{transactionCount};
 ghost use Rattle.store.specs.Layout.{base};
 ghost use Rattle.store.specs.Soundness.{Sound};
 ghost use Rattle.sound.specs.Examined.{Bounded, Examined};
@@ -27,8 +29,8 @@ pub struct Examination {
 }
 
 // The sets, empty before, become those of a sound book's dependencies.
-pub fn examined(book: &[u32], edges: &mut [u64; 64]) -> Examination
-    requires { ⌜ now edges ≡ replicate 64 0 ⌝ }
+pub fn examined(book: &[u32], edges: &mut [u64; TRANSACTIONS]) -> Examination
+    requires { ⌜ now edges ≡ replicate transactionCount 0 ⌝ }
     ensures { λ r. ⌜ ((r .sound ≡ true) ↔ Sound base (now (book .entry)))
         × (r .sound ≡ true → Examined (now (book .entry)) (r .finished) (now (edges .exit))) ⌝ }
 {
@@ -69,6 +71,6 @@ pub fn examined(book: &[u32], edges: &mut [u64; 64]) -> Examination
 pub fn sound(book: &[u32]) -> bool
     ensures { λ r. ⌜ (r ≡ true) ↔ Sound base (now (book .entry)) ⌝ }
 {
-    let mut edges = [0u64; 64];
+    let mut edges = [0u64; TRANSACTIONS];
     examined(book, &mut edges).sound
 }

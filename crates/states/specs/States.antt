@@ -7,34 +7,36 @@ use mathlib.Core.Option.{Option, some}
 use mathlib.Core.List.{List, [], _∷_}
 use lib.Dec.{eqb}
 use lib.ListN.{length, getD, take}
-use Rattle.operations.specs.Operations.{Kind, Stack, Set, Table, Row, Reply, replied, valued, push, kindOf, stackNext}
-use Rattle.operations.specs.Operations.{found, topItem, Ascending}
+use Rattle.operations.specs.Operations.{Kind, Stack, Set, Table, Row, Answer, answering, valued, push, kindOf}
+use Rattle.operations.specs.Operations.{stackNext}
+use Rattle.operations.specs.Operations.{next, answer, found, topItem, Ascending}
+use Rattle.operations.specs.Log.{Answered}
 use Rattle.store.specs.Store.{objectOf}
 use Rattle.store.specs.Layout.{word, decode, operationAt, objectStart, rowsAt, Packed, base}
 use Rattle.store.specs.Soundness.{EntriesFit, RowsFormed}
-use Rattle.representatives.specs.Representatives.{objectAt, keyAt, First, Representative}
-use Rattle.answers.specs.Answers.{Served, entriesFrom}
+use Rattle.representatives.specs.Representatives.{entryObject, entryKey, First, Representative}
+use Rattle.store.specs.Laws.Entries.{entriesFrom}
 
 -- ---- An operation on a key, by its number
 
--- What lookup of the key replies after the operation, by what it replies before.
-unfoldable pub changed : ℕ → ℕ → Reply → Reply
-changed number value held =
-    cond (eqb number 4 || eqb number 7) (cond (eqb (held .code) 0) (replied 1 value) held)
-    (cond (eqb number 5 || eqb number 8) (replied 0 0)
-    (cond (eqb number 11) (cond (eqb (held .code) 0) held (replied 1 value)) held))
+-- What lookup of the key answers after the operation, by what it answers before.
+unfoldable pub stateAfter : ℕ → ℕ → Answer → Answer
+stateAfter number value held =
+    cond (eqb number 4 || eqb number 7) (cond (eqb (held .code) 0) (answering 1 value) held)
+    (cond (eqb number 5 || eqb number 8) (answering 0 0)
+    (cond (eqb number 11) (cond (eqb (held .code) 0) held (answering 1 value)) held))
 
 -- How many rows there are after it; the code is 1 where the key was there.
 unfoldable pub countAfter : ℕ → ℕ → ℕ → ℕ
 countAfter number code count =
     cond (eqb number 4 || eqb number 7) (count + 1 - code) (cond (eqb number 5 || eqb number 8) (count - code) count)
 
--- What it replies.
-unfoldable pub keyedReply : ℕ → Reply → ℕ → Reply
-keyedReply number held count =
-    cond (eqb number 4) (replied 1 0)
-    (cond (eqb number 7) (replied (1 - held .code) 0)
-    (cond (eqb number 9) held (cond (eqb number 10) (replied 1 count) (replied (held .code) 0))))
+-- What it answers.
+unfoldable pub keyedAnswer : ℕ → Answer → ℕ → Answer
+keyedAnswer number held count =
+    cond (eqb number 4) (answering 1 0)
+    (cond (eqb number 7) (answering (1 - held .code) 0)
+    (cond (eqb number 9) held (cond (eqb number 10) (answering 1 count) (answering (held .code) 0))))
 
 -- ---- Entries and objects
 
@@ -47,7 +49,7 @@ Keyed w i = kindOf (operationAt w i) ≡ Stack → ⊥
 
 -- No entry below i has this object and key.
 abbrev pub Untouched : List ℕ → ℕ → ℕ → ℕ → Type 0
-Untouched w i o k = (j : ℕ) → j < i → objectAt w j ≡ o → keyAt w j ≡ k → ⊥
+Untouched w i o k = (j : ℕ) → j < i → entryObject w j ≡ o → entryKey w j ≡ k → ⊥
 
 -- Rows with ascending keys, where the kind has keys.
 abbrev pub Ordered : Kind → List Row → Type 0
@@ -56,35 +58,35 @@ Ordered Set rs = Ascending rs
 Ordered Table rs = Ascending rs
 
 -- From place i of the log on, each object's entries get their answers from its rows.
-abbrev pub AllServed : List ℕ → ℕ → (ℕ → List Row) → Type 0
-AllServed w i rows = (o : ℕ) → o < 16 → Served (entriesFrom w o i) (rows o)
+abbrev pub AllAnswered : List ℕ → ℕ → (ℕ → List Row) → Type 0
+AllAnswered w i rows = (o : ℕ) → o < 16 → Answered next answer (entriesFrom w o i) (rows o)
 
 -- ---- Stacks
 
 -- The rows with the items of these entries pushed on, that of the first entry last.
 abbrev pub pushedOn : List ℕ → List Row → List ℕ → List Row
 pushedOn w rs [] = rs
-pushedOn w rs (e ∷ es) = stackNext (push (keyAt w e)) (pushedOn w rs es)
+pushedOn w rs (e ∷ es) = stackNext (push (entryKey w e)) (pushedOn w rs es)
 
 -- These entries, all below i, are linked: the top is the first of them, `below` has the next one at each. An entry is
 -- written as its index plus one, and 0 stands for none.
-abbrev pub Linked : List ℕ → ℕ → ℕ → List ℕ → Type 0
-Linked below i top [] = top ≡ 0
-Linked below i top (e ∷ es) = (top ≡ e + 1) × (e < i) × Linked below i (getD below e 0) es
+abbrev pub LinkedDown : List ℕ → ℕ → ℕ → List ℕ → Type 0
+LinkedDown below i top [] = top ≡ 0
+LinkedDown below i top (e ∷ es) = (top ≡ e + 1) × (e < i) × LinkedDown below i (getD below e 0) es
 
 -- A stack: as many of its first rows as were never popped, and on them the items of linked entries.
 pub record Stacked (w : List ℕ) (i : ℕ) (first rows : List Row) (top : ℕ) (below : List ℕ) : Type 0 where
   pub low : ℕ
   pub pushes : List ℕ
   pub within : low ≤ length first
-  pub linked : Linked below i top pushes
+  pub linked : LinkedDown below i top pushes
   pub stacked : rows ≡ pushedOn w (take low first) pushes
 
 -- ---- The state
 
--- The reply in cell j.
-abbrev pub cellIn : List ℕ → ℕ → Reply
-cellIn cells j = replied (getD cells (2 * j) 0) (getD cells (2 * j + 1) 0)
+-- The answer in cell j.
+abbrev pub cellIn : List ℕ → ℕ → Answer
+cellIn cells j = answering (getD cells (2 * j) 0) (getD cells (2 * j + 1) 0)
 
 pub record Sized (cells counts tops below : List ℕ) : Type 0 where
   pub of-cells : length cells ≡ 512
@@ -99,13 +101,14 @@ pub record Serving (w : List ℕ) (i : ℕ) (cells counts tops below : List ℕ)
   pub ordered : (o : ℕ) (kind : Kind) → kindAt w o ≡ some kind → Ordered kind (rows o)
   pub few : (o : ℕ) → o < 16 → length (rows o) ≤ 64 + i
   pub counted : (o : ℕ) → o < 16 → getD counts o 0 ≡ length (rows o)
-  -- the cell of an entry that represents others: what lookup of its key would reply
-  pub cell : (j : ℕ) → j < i → First w j → Keyed w j → cellIn cells j ≡ valued (found (keyAt w j) (rows (objectAt w j)))
+  -- the cell of an entry that represents others: what lookup of its key would answer
+  pub cell : (j : ℕ) → j < i → First w j → Keyed w j
+      → cellIn cells j ≡ valued (found (entryKey w j) (rows (entryObject w j)))
   -- a key that no entry has had yet is as in the book
   pub fresh : (o k : ℕ) → Untouched w i o k → (kindAt w o ≡ some Stack → ⊥) → found k (rows o) ≡ found k (rowsAt w o)
   pub stack : (o : ℕ) → o < 16 → kindAt w o ≡ some Stack → Stacked w i (rowsAt w o) (rows o) (getD tops o 0) below
   -- what is left to serve, from these rows, is right exactly where the whole is
-  pub left : AllServed w i rows ↔ AllServed w 0 (rowsAt w)
+  pub left : AllAnswered w i rows ↔ AllAnswered w 0 (rowsAt w)
 
 -- ---- What the functions ask and say
 
@@ -119,11 +122,11 @@ pub record Formed (w : List ℕ) : Type 0 where
 pub record EntryOn (w : List ℕ) (i o : ℕ) : Type 0 where
   pub formed : Formed w
   pub inside : i < word w 0
-  pub on : o ≡ objectAt w i
+  pub on : o ≡ entryObject w i
 
 -- What a yes says; and after a no, not all answers are right.
 abbrev pub Judged : List ℕ → Type 0 → Bool → Type 0
-Judged w After r = (r ≡ true → After) × (r ≡ false → AllServed w 0 (rowsAt w) → ⊥)
+Judged w After r = (r ≡ true → After) × (r ≡ false → AllAnswered w 0 (rowsAt w) → ⊥)
 
 -- An entry of a set or a table, represented by entry p. It has nothing to do with stacks, so any will do.
 pub record KeyedEntry (w : List ℕ) (i o p : ℕ) (cells counts : List ℕ) : Type 0 where
@@ -166,12 +169,12 @@ pub record Seekable (w : List ℕ) (o : ℕ) : Type 0 where
   pub within : o < 16
   pub ascending : Ascending (rowsAt w o)
 
--- What lookup of a key would reply: where no earlier entry has the key the rows decide, else the cell.
-abbrev pub HeldBy : List ℕ → ℕ → ℕ → ℕ → Bool → List ℕ → Reply → Type 0
+-- What lookup of a key would answer: where no earlier entry has the key the rows decide, else the cell.
+abbrev pub HeldBy : List ℕ → ℕ → ℕ → ℕ → Bool → List ℕ → Answer → Type 0
 HeldBy w o key p met cells r = (met ≡ true → r ≡ valued (found key (rowsAt w o))) × (met ≡ false → r ≡ cellIn cells p)
 
--- What top would reply.
-abbrev pub TopBy : List ℕ → ℕ → ℕ → ℕ → Reply → Type 0
+-- What top would answer.
+abbrev pub TopBy : List ℕ → ℕ → ℕ → ℕ → Answer → Type 0
 TopBy w o count top r =
     (i : ℕ) (rows : List Row) (below : List ℕ) → Stacked w i (rowsAt w o) rows top below → length rows ≡ count
     → r ≡ valued (topItem rows)

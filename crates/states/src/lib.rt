@@ -2,33 +2,42 @@
 // object's number of rows, or the top of its stack; and whether there is room for the rows that entries may need.
 //
 // Entries are served in order. `cells` has two words for each entry that represents others: what lookup of its key
-// would reply. `counts` has the rows of each object; `tops` the entry that pushed the item on top of each stack, plus
+// would answer. `counts` has the rows of each object; `tops` the entry that pushed the item on top of each stack, plus
 // one, or 0 where that item is a row of the book; `below`, for each push, what the stack's top was before it.
-use operations::Reply;
+use layout::ENTRIES;
+use layout::OBJECTS;
+use operations::Answer;
 ghost use mathlib.Core.Path.{_≡_};
 ghost use mathlib.Core.Bool.{true};
 ghost use mathlib.Core.Logic.{_↔_};
 ghost use Prim.Native.Nat.{_≤_, _<_};
 ghost use lib.ListN.{length};
+ghost use Rattle.store.specs.Store.{entryLimit, objectCount};
+ghost use Rattle.operations.specs.Operations.{rowLimit};
 ghost use Rattle.operations.specs.Operations.{valued, found};
-ghost use Rattle.operations.specs.Stored.{asReply};
-ghost use Rattle.store.specs.Layout.{word, base, decode, rowsAt, Packed};
+ghost use Rattle.operations.specs.Stored.{answerOf};
+ghost use Rattle.store.specs.Layout.{BookLong, word, base, decode, rowsAt, Packed};
 ghost use Rattle.store.specs.Soundness.{EntriesFit, EntriesAnswered, Room, RowsFormed};
 ghost use Rattle.representatives.specs.Representatives.{Represented};
 ghost use Rattle.states.specs.States as states;
 
-fn same_reply(a: Reply, b: Reply) -> bool
-    ensures { λ r. ⌜ (r ≡ true) ↔ (asReply a ≡ asReply b) ⌝ }
+// The words of a cell, a code and a value, and those of all.
+const CELL: usize = 2;
+
+const CELLS: usize = CELL * ENTRIES;
+
+fn same_answer(a: Answer, b: Answer) -> bool
+    ensures { λ r. ⌜ (r ≡ true) ↔ (answerOf a ≡ answerOf b) ⌝ }
 {
     a.code == b.code && a.value == b.value
 }
 
 // ---- Sets and tables
 
-// What lookup of the key replies from the book's rows, which ascend: the last row whose key is not above it.
-fn seek(book: &[u32], object: usize, key: u32) -> Reply
+// What lookup of the key answers from the book's rows, which ascend: the last row whose key is not above it.
+fn seek(book: &[u32], object: usize, key: u32) -> Answer
     requires { ⌜ states.Seekable (now book) object ⌝ }
-    ensures { λ r. ⌜ asReply r ≡ valued (found key (rowsAt (now (book .entry)) object)) ⌝ }
+    ensures { λ r. ⌜ answerOf r ≡ valued (found key (rowsAt (now (book .entry)) object)) ⌝ }
 {
     let mut low: usize = 0;
     let mut left = layout::row_count(book, object);
@@ -40,48 +49,48 @@ fn seek(book: &[u32], object: usize, key: u32) -> Reply
         left -= half;
     }
     if left == 1 && layout::row_key(book, object, low) == key {
-        return Reply {
+        return Answer {
             code: 1,
             value: layout::row_value(book, object, low),
         };
     }
-    Reply { code: 0, value: 0 }
+    Answer { code: 0, value: 0 }
 }
 
-// What lookup of the key would reply now: from the book's rows where no earlier entry has the key, else from its cell.
-fn held(book: &[u32], object: usize, key: u32, cell: usize, met: bool, cells: &[u32]) -> Reply
-    requires { ⌜ states.Seekable (now book) object × (cell < 256) × (length (now cells) ≡ 512) ⌝ }
-    ensures { λ r. ⌜ states.HeldBy (now (book .entry)) object key cell met (now (cells .entry)) (asReply r) ⌝ }
+// What lookup of the key would answer now: from the book's rows where no earlier entry has the key, else from its cell.
+fn held(book: &[u32], object: usize, key: u32, cell: usize, met: bool, cells: &[u32]) -> Answer
+    requires { ⌜ states.Seekable (now book) object × (cell < entryLimit) × (length (now cells) ≡ 512) ⌝ }
+    ensures { λ r. ⌜ states.HeldBy (now (book .entry)) object key cell met (now (cells .entry)) (answerOf r) ⌝ }
 {
     if met {
         return seek(book, object, key);
     }
-    Reply {
-        code: cells[2 * cell],
-        value: cells[2 * cell + 1],
+    Answer {
+        code: cells[CELL * cell],
+        value: cells[CELL * cell + 1],
     }
 }
 
-// What lookup would reply after an operation on the key, by what it would reply before.
-fn changed(number: u32, value: u32, held: Reply) -> Reply
-    ensures { λ r. ⌜ asReply r ≡ states.changed number value (asReply held) ⌝ }
+// What lookup would answer after an operation on the key, by what it would answer before.
+fn changed(number: u32, value: u32, held: Answer) -> Answer
+    ensures { λ r. ⌜ answerOf r ≡ states.stateAfter number value (answerOf held) ⌝ }
 {
     match number {
-        4 | 7 => {
+        operations::SET_INSERT | operations::TABLE_INSERT => {
             if held.code == 0 {
-                return Reply {
+                return Answer {
                     code: 1,
                     value: value,
                 };
             }
             held
         }
-        5 | 8 => Reply { code: 0, value: 0 },
-        11 => {
+        operations::SET_DELETE | operations::TABLE_DELETE => Answer { code: 0, value: 0 },
+        operations::MODIFY => {
             if held.code == 0 {
                 return held;
             }
-            Reply {
+            Answer {
                 code: 1,
                 value: value,
             }
@@ -96,29 +105,29 @@ fn count_after(number: u32, code: u32, count: u32) -> u32
     ensures { λ r. ⌜ r ≡ states.countAfter number code count ⌝ }
 {
     match number {
-        4 | 7 => count + 1 - code,
-        5 | 8 => count - code,
+        operations::SET_INSERT | operations::TABLE_INSERT => count + 1 - code,
+        operations::SET_DELETE | operations::TABLE_DELETE => count - code,
         _ => count,
     }
 }
 
-// What an operation on a key replies.
-fn keyed_reply(number: u32, held: Reply, count: u32) -> Reply
+// What an operation on a key answers.
+fn keyed_answer(number: u32, held: Answer, count: u32) -> Answer
     requires { ⌜ held .code ≤ 1 ⌝ }
-    ensures { λ r. ⌜ asReply r ≡ states.keyedReply number (asReply held) count ⌝ }
+    ensures { λ r. ⌜ answerOf r ≡ states.keyedAnswer number (answerOf held) count ⌝ }
 {
     match number {
-        4 => Reply { code: 1, value: 0 },
-        7 => Reply {
+        operations::SET_INSERT => Answer { code: 1, value: 0 },
+        operations::TABLE_INSERT => Answer {
             code: 1 - held.code,
             value: 0,
         },
-        9 => held,
-        10 => Reply {
+        operations::LOOKUP => held,
+        operations::SIZE => Answer {
             code: 1,
             value: count,
         },
-        _ => Reply {
+        _ => Answer {
             code: held.code,
             value: 0,
         },
@@ -131,8 +140,8 @@ fn serve_keyed(
     i: usize,
     object: usize,
     cell: usize,
-    cells: &mut [u32; 512],
-    counts: &mut [u32; 16],
+    cells: &mut [u32; CELLS],
+    counts: &mut [u32; OBJECTS],
 ) -> bool
     requires { ⌜ states.KeyedEntry (now book) i object cell (now cells) (now counts) ⌝ }
     ensures { λ r. ⌜ states.KeyedServed (now (book .entry)) i
@@ -142,35 +151,35 @@ fn serve_keyed(
     let whole = &cells[..];
     let held = held(book, object, operation.key, cell, cell == i, whole);
     let count = counts[object];
-    let given = keyed_reply(operation.number, held, count);
-    if !same_reply(given, layout::entry_answer(book, i)) {
+    let given = keyed_answer(operation.number, held, count);
+    if !same_answer(given, layout::entry_answer(book, i)) {
         return false;
     }
     let next = changed(operation.number, operation.value, held);
     counts[object] = count_after(operation.number, held.code, count);
-    cells[2 * cell] = next.code;
-    cells[2 * cell + 1] = next.value;
+    cells[CELL * cell] = next.code;
+    cells[CELL * cell + 1] = next.value;
     true
 }
 
 // ---- Stacks
 
-// What top would reply now.
-fn top_reply(book: &[u32], object: usize, count: u32, top: u16) -> Reply
-    requires { ⌜ (length (now book) ≡ 3937) × (object < 16) × (top ≤ 256) × (top ≡ 0 → count ≤ 64) ⌝ }
-    ensures { λ r. ⌜ states.TopBy (now (book .entry)) object count top (asReply r) ⌝ }
+// What top would answer now.
+fn top_answer(book: &[u32], object: usize, count: u32, top: u16) -> Answer
+    requires { ⌜ BookLong (now book) × (object < objectCount) × (top ≤ entryLimit) × (top ≡ 0 → count ≤ rowLimit) ⌝ }
+    ensures { λ r. ⌜ states.TopBy (now (book .entry)) object count top (answerOf r) ⌝ }
 {
     if top != 0 {
         let pushed = layout::entry_operation(book, top as usize - 1);
-        return Reply {
+        return Answer {
             code: 1,
             value: pushed.key,
         };
     }
     if count == 0 {
-        return Reply { code: 0, value: 0 };
+        return Answer { code: 0, value: 0 };
     }
-    Reply {
+    Answer {
         code: 1,
         value: layout::row_key(book, object, layout::wide(count - 1)),
     }
@@ -181,9 +190,9 @@ fn serve_stack(
     book: &[u32],
     i: usize,
     object: usize,
-    counts: &mut [u32; 16],
-    tops: &mut [u16; 16],
-    below: &mut [u16; 256],
+    counts: &mut [u32; OBJECTS],
+    tops: &mut [u16; OBJECTS],
+    below: &mut [u16; ENTRIES],
 ) -> bool
     requires { ⌜ states.StackEntry (now book) i object (now counts) (now tops) (now below) ⌝ }
     ensures { λ r. ⌜ states.StackServed (now (book .entry)) i
@@ -194,21 +203,21 @@ fn serve_stack(
     let answer = layout::entry_answer(book, i);
     let count = counts[object];
     let top = tops[object];
-    if operation.number == 1 {
+    if operation.number == operations::PUSH {
         below[i] = top;
         tops[object] = (i + 1) as u16;
         counts[object] = count + 1;
-        return same_reply(Reply { code: 1, value: 0 }, answer);
+        return same_answer(Answer { code: 1, value: 0 }, answer);
     }
-    let given = top_reply(book, object, count, top);
-    if operation.number == 2 && count > 0 {
+    let given = top_answer(book, object, count, top);
+    if operation.number == operations::POP && count > 0 {
         counts[object] = count - 1;
         if top != 0 {
             let under = below[top as usize - 1];
             tops[object] = under;
         }
     }
-    same_reply(given, answer)
+    same_answer(given, answer)
 }
 
 // ---- All objects
@@ -219,40 +228,40 @@ fn serve(
     i: usize,
     object: usize,
     cell: usize,
-    cells: &mut [u32; 512],
-    counts: &mut [u32; 16],
-    tops: &mut [u16; 16],
-    below: &mut [u16; 256],
+    cells: &mut [u32; CELLS],
+    counts: &mut [u32; OBJECTS],
+    tops: &mut [u16; OBJECTS],
+    below: &mut [u16; ENTRIES],
 ) -> bool
     requires { ⌜ states.ToServe (now book) i object cell (now cells) (now counts) (now tops) (now below) ⌝ }
     ensures { λ r. ⌜ states.AfterEntry (now (book .entry)) i
         (now (cells .exit)) (now (counts .exit)) (now (tops .exit)) (now (below .exit)) r ⌝ }
 {
     let operation = layout::entry_operation(book, i);
-    if operation.number < 4 {
+    if operation.number < operations::SET_INSERT {
         return serve_stack(book, i, object, counts, tops, below);
     }
     serve_keyed(book, i, object, cell, cells, counts)
 }
 
 // The rows of each object in the book.
-fn row_counts(book: &[u32]) -> [u32; 16]
+fn row_counts(book: &[u32]) -> [u32; OBJECTS]
     requires { ⌜ Packed base (now book) ⌝ }
-    ensures { λ r. ⌜ states.RowCounts (now (book .entry)) 16 r ⌝ }
+    ensures { λ r. ⌜ states.RowCounts (now (book .entry)) objectCount r ⌝ }
 {
-    let mut counts = [0u32; 16];
-    for object in 0..layout::OBJECTS {
+    let mut counts = [0u32; OBJECTS];
+    for object in 0..OBJECTS {
         counts[object] = layout::row_count(book, object) as u32;
     }
     counts
 }
 
 // Whether each entry has the answer that replay gives, and each object room for its rows with its pushes and inserts.
-pub fn answered(book: &[u32], representatives: &[u16; 256]) -> bool
+pub fn answered(book: &[u32], representatives: &[u16; ENTRIES]) -> bool
     requires { ⌜ Packed base (now book) × EntriesFit (decode base (now book)) × RowsFormed base (decode base (now book))
         × Represented (now book) (word (now book) 0) (now representatives) ⌝ }
     ensures { λ r. ⌜ (r ≡ true)
-        ↔ (Room base (decode base (now (book .entry))) × EntriesAnswered base (decode base (now (book .entry)))) ⌝ }
+        ↔ (Room base (decode base (now (book .entry))) × EntriesAnswered (decode base (now (book .entry)))) ⌝ }
 {
     let entries = layout::entry_count(book);
     if entries == 0 {
@@ -260,9 +269,9 @@ pub fn answered(book: &[u32], representatives: &[u16; 256]) -> bool
     }
     let mut counts = row_counts(book);
     let mut used = row_counts(book);
-    let mut tops = [0u16; 16];
-    let mut below = [0u16; 256];
-    let mut cells = [0u32; 512];
+    let mut tops = [0u16; OBJECTS];
+    let mut below = [0u16; ENTRIES];
+    let mut cells = [0u32; CELLS];
     for i in 0..entries {
         let object = layout::wide(layout::entry_object(book, i));
         let operation = layout::entry_operation(book, i);

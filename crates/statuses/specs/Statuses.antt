@@ -10,12 +10,14 @@ use Rattle.store.specs.Layout.{statusWord, readStatus}
 use Rattle.store.specs.Steps.{lowered}
 use Rattle.statuses.specs.declared.Ranks.{Ranks}
 
--- What a status adds to the ranks seen: a rank below 64 that is new joins; any other is none that once-each ranks without gaps can have.
+-- What a status adds to the ranks seen: a rank below 64 that is new joins; any other is none that once-each ranks
+-- without gaps can have.
 abbrev pub Noted : Status → Ranks → Ranks → Type 0
 Noted absent before after = after ≡ before
 Noted active before after = after ≡ before
 Noted (pseudoCommitted rank) before after =
-    ((rank < 64) × (has (before .seen) rank ≡ false) × Members (after .seen) (λ h. has (before .seen) h || eqb h rank) × (after .once ≡ before .once))
+    ((rank < 64) × (has (before .seen) rank ≡ false) × Members (after .seen) (λ h. has (before .seen) h || eqb h rank)
+    × (after .once ≡ before .once))
     ⊎ (((64 ≤ rank) ⊎ (has (before .seen) rank ≡ true)) × (after .once ≡ false))
 
 -- Below each member all lower numbers are members.

@@ -1,4 +1,5 @@
--- Whether a transaction depends on nobody, lies on a cycle, and whether words are a sound book: each type says what is decided.
+-- Whether a transaction depends on nobody, lies on a cycle, and whether words are a sound book: each type says what is
+-- decided.
 use Prim.Native.Nat.{ℕ}
 use mathlib.Core.List.{List}
 use Rattle.store.specs.Store.{Logged, Store}

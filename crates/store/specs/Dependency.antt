@@ -5,7 +5,7 @@ use mathlib.Core.Bool.{false}
 use mathlib.Core.Logic.{_⊎_}
 use mathlib.Core.List.{List, [], _∷_}
 use Rattle.operations.specs.PairRules.{commutes}
-use Rattle.store.specs.Store.{Logged, Store, PseudoCommitted}
+use Rattle.store.specs.Store.{transactionCount, Logged, Store, PseudoCommitted}
 
 -- Some element is such.
 abbrev pub Any : {A : Type 0} → (A → Type 0) → List A → Type 0
@@ -20,9 +20,11 @@ Follows R (e ∷ l) = Any (R e) l ⊎ Follows R l
 -- Entry e is b's, the later entry x is a's, both are of one object, and they do not commute.
 abbrev pub Conflict : ℕ → ℕ → Logged → Logged → Type 0
 Conflict a b e x =
-    (x .entry .transaction ≡ a) × (e .entry .transaction ≡ b) × (x .object ≡ e .object) × (commutes (x .entry .operation) (e .entry .operation) ≡ false)
+    (x .entry .transaction ≡ a) × (e .entry .transaction ≡ b) × (x .object ≡ e .object)
+    × (commutes (x .entry .operation) (e .entry .operation) ≡ false)
 
--- Transaction a depends on b: one of its entries follows a non-commuting entry of b on the same object. Its own never count.
+-- Transaction a depends on b: one of its entries follows a non-commuting entry of b on the same object. Its own never
+-- count.
 abbrev pub DependsOn : List Logged → ℕ → ℕ → Type 0
 DependsOn log a b = (a ≡ b → ⊥) × Follows (Conflict a b) log
 
@@ -39,10 +41,10 @@ module _ (Edge : ℕ → ℕ → Type 0) (Through : ℕ → Type 0) where
   Way (suc n) a b = Edge a b ⊎ ((c : ℕ) × Through c × Edge a c × Way n c b)
 
   -- A way of any length.
-  abbrev pub Path : ℕ → ℕ → Type 0
-  Path a b = (n : ℕ) × Way n a b
+  abbrev pub Leads : ℕ → ℕ → Type 0
+  Leads a b = (n : ℕ) × Way n a b
 
--- The transaction lies on a cycle whose other members are all pseudo-committed (finished). There are 64 transactions, so 64 steps lead round
--- any cycle.
+-- The transaction lies on a cycle whose other members are all pseudo-committed (finished). There are 64 transactions,
+-- so 64 steps lead round any cycle.
 abbrev pub OnCycle : Store → ℕ → Type 0
-OnCycle s t = Way (DependsOn (s .log)) (PseudoCommitted s) 64 t t
+OnCycle s t = Way (DependsOn (s .log)) (PseudoCommitted s) transactionCount t t

@@ -3,11 +3,13 @@ pub mod Any
 pub mod Statuses
 pub mod Capacity
 pub mod Reading
+pub mod Entries
 pub mod Dependencies
 pub mod Words
 pub mod Encoding
 pub mod Objects
 pub mod Rows
+pub mod Writing
 pub mod Empty
 pub mod Ways
 pub mod Cycles

@@ -1,17 +1,40 @@
 -- Document 01, "The book": a store as words and words as a store.
 use Prim.Native.Nat.{ℕ, suc, zero, _+_, _-_, _*_, _≤_, _<_}
 use mathlib.Core.Path.{_≡_}
-use mathlib.Core.Bool.{Bool, true, false, cond}
+use mathlib.Core.Bool.{cond}
 use mathlib.Core.Option.{Option, none, some}
 use mathlib.Core.List.{List, [], _∷_, _++_, map}
 use lib.ListN.{length, getD, replicate}
-use Rattle.operations.specs.Operations.{Kind, Stack, Set, Table, Row, row, push, pop, top, setInsert, setDelete, member, tableInsert, tableDelete, lookup, size, modify, Operation, onStack, onSet, onTable, Reply, replied, All, stored, numberOf, keyOf, valueOf, reduceKey}
+use Rattle.operations.specs.Operations.{kindNumber, adds, rowLimit}
+use Rattle.operations.specs.Operations.{Kind, Stack, Set, Table, Row, row, pop, Operation, onStack, Answer, answering}
+use Rattle.operations.specs.Operations.{All, stored, numberOf, keyOf, valueOf, reduceKey}
 use Rattle.operations.specs.Log.{Entry}
+use Rattle.store.specs.Store.{transactionCount, objectCount, entryLimit}
 use Rattle.store.specs.Store.{Status, absent, active, pseudoCommitted, Object, Logged, Store, objectOf, onObject}
 
 -- Word i; 0 past the end.
 abbrev pub word : List ℕ → ℕ → ℕ
 word w i = getD w i 0
+
+-- How many words a book has; where the objects and the log start; and the words of an object and of an entry.
+abbrev pub bookWords : ℕ
+bookWords = 3_937
+
+abbrev pub objectsStart : ℕ
+objectsStart = 65
+
+abbrev pub objectWidth : ℕ
+objectWidth = 130
+
+abbrev pub logStart : ℕ
+logStart = 2_145
+
+abbrev pub entryWidth : ℕ
+entryWidth = 7
+
+-- As many words as a book has.
+abbrev pub BookLong : List ℕ → Type 0
+BookLong w = length w ≡ bookWords
 
 module _ {A : Type 0} where
   -- The first n values of a function.
@@ -28,7 +51,8 @@ module _ {A : Type 0} where
 abbrev pub padded : ℕ → List ℕ → List ℕ
 padded n ws = ws ++ replicate (n - length ws) 0
 
--- ---- What later requests change: how objects stand in the book, how many rows there is room for, and how keys are reduced
+-- ---- What later requests change: how objects stand in the book, how many rows there is room for, and how keys are
+-- reduced
 
 pub record Format : Type 1 where
   -- the objects, as words 65 to 2,144
@@ -54,9 +78,7 @@ statusWord (pseudoCommitted rank) = 2 + rank
 
 abbrev pub kindWord : Option Kind → ℕ
 kindWord none = 0
-kindWord (some Stack) = 1
-kindWord (some Set) = 2
-kindWord (some Table) = 3
+kindWord (some kind) = kindNumber kind
 
 abbrev pub rowWords : Row → List ℕ
 rowWords r = r .key ∷ r .value ∷ []
@@ -71,7 +93,8 @@ entryWords l =
 module _ (format : Format) where
   unfoldable pub encode : Store → List ℕ
   encode s =
-      length (s .log) ∷ (map statusWord (s .statuses) ++ (format .objectWords (s .objects) ++ padded 1_792 (joined entryWords (s .log))))
+      length (s .log) ∷ (map statusWord (s .statuses)
+      ++ (format .objectWords (s .objects) ++ padded (entryWidth * entryLimit) (joined entryWords (s .log))))
 
 -- ---- Decoding
 
@@ -90,7 +113,7 @@ orPop none = onStack pop
 orPop (some o) = o
 
 abbrev pub entryStart : ℕ → ℕ
-entryStart i = 2_145 + 7 * i
+entryStart i = logStart + entryWidth * i
 
 abbrev pub operationAt : List ℕ → ℕ → Operation
 operationAt w i =
@@ -102,7 +125,11 @@ entryAt w i =
     let start = entryStart i in
     record {
       object = word w (start + 1);
-      entry = record { transaction = word w start; operation = operationAt w i; answer = replied (word w (start + 5)) (word w (start + 6)) };
+      entry = record {
+        transaction = word w start;
+        operation = operationAt w i;
+        answer = answering (word w (start + 5)) (word w (start + 6));
+      };
     }
 
 abbrev pub statusAt : List ℕ → ℕ → Status
@@ -110,11 +137,17 @@ statusAt w t = readStatus (word w (1 + t))
 
 module _ (format : Format) where
   abbrev pub decode : List ℕ → Store
-  decode w = record { statuses = tabulate 64 (statusAt w); objects = tabulate 16 (format .objectAt w); log = tabulate (word w 0) (entryAt w) }
+  decode w =
+      record {
+        statuses = tabulate transactionCount (statusAt w);
+        objects = tabulate objectCount (format .objectAt w);
+        log = tabulate (word w 0) (entryAt w);
+      }
 
 -- ---- Ranges and zeros
 
--- The operation's words are those that are stored for it: its number is in range, and an argument that it does not use is 0.
+-- The operation's words are those that are stored for it: its number is in range, and an argument that it does not use
+-- is 0.
 abbrev pub AsStored : List ℕ → ℕ → Type 0
 AsStored w i =
     let start = entryStart i in
@@ -122,26 +155,26 @@ AsStored w i =
     (numberOf o ≡ word w (start + 2)) × (keyOf o ≡ word w (start + 3)) × (valueOf o ≡ word w (start + 4))
 
 pub record LogPacked (w : List ℕ) : Type 0 where
-  pub entries : word w 0 ≤ 256
+  pub entries : word w 0 ≤ entryLimit
   pub asStored : (i : ℕ) → i < word w 0 → AsStored w i
   pub unused : (i : ℕ) → entryStart (word w 0) ≤ i → word w i ≡ 0
 
 pub record Packed (format : Format) (w : List ℕ) : Type 0 where
-  pub words : length w ≡ 3_937
+  pub words : BookLong w
   pub objects : format .ObjectsPacked w
   pub log : LogPacked w
 
 -- A store that fits into a book, the size of its numbers apart.
 pub record Representable (format : Format) (s : Store) : Type 0 where
-  pub statuses : length (s .statuses) ≡ 64
-  pub objects : length (s .objects) ≡ 16
+  pub statuses : length (s .statuses) ≡ transactionCount
+  pub objects : length (s .objects) ≡ objectCount
   pub fit : format .ObjectsFit (s .objects)
-  pub entries : length (s .log) ≤ 256
+  pub entries : length (s .log) ≤ entryLimit
 
 -- ---- The base: 130 words for each object, 64 rows each, keys without the maker's mark
 
 abbrev pub objectStart : ℕ → ℕ
-objectStart o = 65 + 130 * o
+objectStart o = objectsStart + objectWidth * o
 
 abbrev pub rowAt : List ℕ → ℕ → ℕ → Row
 rowAt w o i = let start = objectStart o + 2 + 2 * i in row (word w start) (word w (start + 1))
@@ -153,35 +186,21 @@ abbrev pub readObject : List ℕ → ℕ → Object
 readObject w o = record { kind = readKind (word w (objectStart o)); rows = rowsAt w o }
 
 abbrev pub objectWords : Object → List ℕ
-objectWords x = kindWord (x .kind) ∷ length (x .rows) ∷ padded 128 (joined rowWords (x .rows))
+objectWords x = kindWord (x .kind) ∷ length (x .rows) ∷ padded (2 * rowLimit) (joined rowWords (x .rows))
 
 pub record ObjectPacked (w : List ℕ) (o : ℕ) : Type 0 where
   pub kind : word w (objectStart o) ≤ 3
-  pub rows : word w (objectStart o + 1) ≤ 64
+  pub rows : word w (objectStart o + 1) ≤ rowLimit
   -- kind 0 has no rows
   pub none : word w (objectStart o) ≡ 0 → word w (objectStart o + 1) ≡ 0
-  pub unused : (i : ℕ) → 2 * word w (objectStart o + 1) ≤ i → i < 128 → word w (objectStart o + 2 + i) ≡ 0
+  pub unused : (i : ℕ) → 2 * word w (objectStart o + 1) ≤ i → i < 2 * rowLimit → word w (objectStart o + 2 + i) ≡ 0
 
 pub record ObjectFits (x : Object) : Type 0 where
-  pub rows : length (x .rows) ≤ 64
+  pub rows : length (x .rows) ≤ rowLimit
   pub none : x .kind ≡ none → x .rows ≡ []
 
--- Whether an operation may need a row: a push or an insert.
-abbrev pub adds : Operation → Bool
-adds (onStack (push x)) = true
-adds (onStack pop) = false
-adds (onStack top) = false
-adds (onSet (setInsert k)) = true
-adds (onSet (setDelete k)) = false
-adds (onSet (member k)) = false
-adds (onTable (tableInsert k v)) = true
-adds (onTable (tableDelete k)) = false
-adds (onTable (lookup k)) = false
-adds (onTable size) = false
-adds (onTable (modify k v)) = false
-
 -- How many entries are pushes and inserts.
-abbrev pub additions : List (Entry Operation Reply) → ℕ
+abbrev pub additions : List (Entry Operation Answer) → ℕ
 additions [] = 0
 additions (e ∷ l) = cond (adds (e .operation)) (suc (additions l)) (additions l)
 
@@ -190,9 +209,9 @@ base =
     record {
       objectWords = joined objectWords;
       objectAt = readObject;
-      ObjectsPacked = λ w. (o : ℕ) → o < 16 → ObjectPacked w o;
+      ObjectsPacked = λ w. (o : ℕ) → o < objectCount → ObjectPacked w o;
       ObjectsFit = All ObjectFits;
       used = λ s o. length (objectOf s o .rows) + additions (onObject o (s .log));
-      limit = 64;
+      limit = rowLimit;
       reduce = reduceKey;
     }

@@ -6,10 +6,29 @@ use mathlib.Core.Option.{Option, none}
 use mathlib.Core.List.{List, [], _∷_}
 use lib.Dec.{eqb}
 use lib.ListN.{getD}
-use Rattle.operations.specs.Operations.{Kind, Row, Operation, Reply}
+use Rattle.operations.specs.Operations.{Kind, Row, Operation, Answer}
 use Rattle.operations.specs.Log.{Entry, filter}
 
--- The status of a transaction (handout): absent, active (open), or pseudo-committed (finished) with its rank in the order of finishing.
+-- ---- How many there are: each number of document 01 once, since later requests change some and not others
+
+-- Transactions are numbered 0 to 63, objects 0 to 15.
+abbrev pub transactionCount : ℕ
+transactionCount = 64
+
+abbrev pub objectCount : ℕ
+objectCount = 16
+
+abbrev pub entryLimit : ℕ
+entryLimit = 256
+
+-- Bytes that the list lent to finish and cancel has at least.
+abbrev pub listLength : ℕ
+listLength = 64
+
+-- ---- What a book holds
+
+-- The status of a transaction (handout): absent, active (open), or pseudo-committed (finished) with its rank in the
+-- order of finishing.
 pub data Status : Type 0 where
   absent active : Status
   pseudoCommitted : (rank : ℕ) → Status
@@ -25,7 +44,7 @@ noObject = record { kind = none; rows = [] }
 -- A log entry and the object that it is of.
 pub record Logged : Type 0 where
   pub object : ℕ
-  pub entry : Entry Operation Reply
+  pub entry : Entry Operation Answer
 
 -- The statuses of transactions 0 to 63, objects 0 to 15, and the log, oldest entry first.
 pub record Store : Type 0 where
@@ -60,7 +79,7 @@ abbrev pub pseudoCommittedCount : Store → ℕ
 pseudoCommittedCount s = pseudoCommittedIn (s .statuses)
 
 -- The entries of one object, in order.
-abbrev pub onObject : ℕ → List Logged → List (Entry Operation Reply)
+abbrev pub onObject : ℕ → List Logged → List (Entry Operation Answer)
 onObject o [] = []
 onObject o (e ∷ l) = cond (eqb (e .object) o) (e .entry ∷ onObject o l) (onObject o l)
 

@@ -4,11 +4,11 @@ use mathlib.Core.Path.{_≡_}
 use mathlib.Core.Logic.{_↔_}
 use mathlib.Core.List.{List}
 use lib.ListN.{length, replicate, length-replicate}
+use Rattle.operations.specs.PairRules.{commutes}
 use Rattle.operations.specs.Operations.{Kind}
 use Rattle.operations.specs.Log.{Commuting, one}
-use Rattle.operations.specs.Laws.Objects.{object}
 use Rattle.store.specs.Store.{Logged, Store, Active, PseudoCommitted, onObject}
-use Rattle.store.specs.Dependency.{DependsOn, Path, OnCycle}
+use Rattle.store.specs.Dependency.{DependsOn, Leads, OnCycle}
 use Rattle.store.specs.Layout.{encode, decode, Packed, Representable, base}
 use Rattle.store.specs.Soundness.{Acyclic, Dependent, Sound}
 use Rattle.store.specs.Laws.Words.{zeros-word}
@@ -42,16 +42,18 @@ zeros-sound = base-zeros-sound (replicate 3_937 0) (zeros-word 3_937) (length-re
 
 -- ---- Dependency
 
--- A transaction depends on nobody exactly where each of its entries commutes with every earlier entry of another on its object: what
--- `committing` asks of one that commits.
+-- A transaction depends on nobody exactly where each of its entries commutes with every earlier entry of another on its
+-- object: what `committing` asks of one that commits.
 pub depends-on-nobody : (reduce : ℕ → ℕ) (kind : Kind) (t : ℕ) (log : List Logged)
-    → ((u : ℕ) → DependsOn log t u → ⊥) ↔ ((o : ℕ) → Commuting (object reduce kind) (one t) (onObject o log))
+    → ((u : ℕ) → DependsOn log t u → ⊥) ↔ ((o : ℕ) → Commuting commutes (one t) (onObject o log))
 depends-on-nobody reduce kind t log = (ready-commuting reduce kind t log, commuting-ready reduce kind t log)
 
 -- A cycle of at most 64 steps is there exactly where one of any length is.
-pub cycle-any-length : (s : Store) → length (s .statuses) ≡ 64 → (t : ℕ) → t < 64 → OnCycle s t ↔ Path (DependsOn (s .log)) (PseudoCommitted s) t t
+pub cycle-any-length : (s : Store) → length (s .statuses) ≡ 64 → (t : ℕ) → t < 64
+    → OnCycle s t ↔ Leads (DependsOn (s .log)) (PseudoCommitted s) t t
 cycle-any-length = cycles.cycle-any-length
 
 -- Document 01: "When no handout is open, none is left finished."
-pub none-left : (s : Store) → length (s .statuses) ≡ 64 → Acyclic s → Dependent s → ((t : ℕ) → Active s t → ⊥) → (t : ℕ) → PseudoCommitted s t → ⊥
+pub none-left : (s : Store) → length (s .statuses) ≡ 64 → Acyclic s → Dependent s → ((t : ℕ) → Active s t → ⊥)
+    → (t : ℕ) → PseudoCommitted s t → ⊥
 none-left = cycles.none-left

@@ -8,9 +8,9 @@ use Rattle.text.specs.Text.{put}
 use Rattle.text.specs.declared.Number.{Number}
 use Rattle.text.specs.declared.Number.the-variants.{Is, Not}
 
-abbrev pub numberOf : Number → Option ℕ
-numberOf (Is n) = some n
-numberOf Not = none
+abbrev pub numberSaid : Number → Option ℕ
+numberSaid (Is n) = some n
+numberSaid Not = none
 
 -- A text was put at a place of a buffer, and the place behind it returned.
 pub record Put (out : List ℕ) (at : ℕ) (text after : List ℕ) (end : ℕ) : Type 0 where

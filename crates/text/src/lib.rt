@@ -3,7 +3,7 @@ ghost use mathlib.Core.Path.{_≡_};
 ghost use Prim.Native.Nat.{_+_, _≤_};
 ghost use lib.ListN.{length};
 ghost use Rattle.text.specs.Text.{numberIn, decimal};
-ghost use Rattle.text.specs.Fields.{numberOf, Put};
+ghost use Rattle.text.specs.Fields.{numberSaid, Put};
 
 // What a field says.
 pub enum Number {
@@ -12,10 +12,13 @@ pub enum Number {
 }
 
 // Digits of a number, leading zeros among them.
-const MOST_DIGITS: usize = 10;
+pub const MOST_DIGITS: usize = 10;
+
+// The largest number.
+const LARGEST: u64 = u32::MAX as u64;
 
 pub fn read_number(field: &[u8]) -> Number
-    ensures { λ r. ⌜ numberOf r ≡ numberIn (now (field .entry)) ⌝ }
+    ensures { λ r. ⌜ numberSaid r ≡ numberIn (now (field .entry)) ⌝ }
 {
     if field.len() == 0 {
         return Number::Not;
@@ -34,7 +37,7 @@ pub fn read_number(field: &[u8]) -> Number
         }
         value = 10 * value + wide(byte - b'0');
     }
-    if 4_294_967_295 < value {
+    if LARGEST < value {
         return Number::Not;
     }
     Number::Is(value as u32)

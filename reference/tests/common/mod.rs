@@ -19,6 +19,8 @@ pub const LIST_LENGTH: usize = 64;
 pub const UNREDUCED: u32 = 16_777_216;
 /// What lists hold before calls, to see which bytes are written.
 pub const BLANK: u8 = 0xA5;
+/// The paper's whole case.
+pub const WHOLE_CASE: &str = include_str!("../../../examples/whole_case.txt");
 
 pub type Entry = [u32; 7];
 
@@ -161,6 +163,11 @@ pub fn transcript_lines(transcript: &str) -> impl Iterator<Item = (&str, &str)> 
     })
 }
 
+/// The input and the output of a transcript.
+pub fn columns(transcript: &str) -> (String, String) {
+    transcript_lines(transcript).map(|(call, reply)| (format!("{call}\n"), format!("{reply}\n"))).unzip()
+}
+
 /// What the script program prints for an input.
 pub fn printed(input: impl Read) -> String {
     let mut output = Vec::new();
@@ -170,8 +177,7 @@ pub fn printed(input: impl Read) -> String {
 
 /// Asserts what the script program prints for a whole transcript.
 pub fn assert_printed(transcript: &str) {
-    let (input, expected): (String, String) =
-        transcript_lines(transcript).map(|(call, reply)| (format!("{call}\n"), format!("{reply}\n"))).unzip();
+    let (input, expected) = columns(transcript);
     assert_eq!(printed(input.as_bytes()), expected);
 }
 

@@ -1,4 +1,4 @@
--- `answers::answer`: after the entries to come, the rows carried give the request the reply that it gets after all.
+-- `answers::answer`: after the entries to come, the rows carried give the request the answer that it gets after all.
 use Prim.Native.Nat.{_+_, _-_, _≤_, _<_}
 use mathlib.Core.Path.{_≡_, sym, _∙_}
 use mathlib.Core.Logic.{⊎-elim}
@@ -6,11 +6,11 @@ use native.Mathlib.Omega.{arith}
 use borrow.Author.Needs.{needs}
 use lib.ListN.{length}
 use Rattle.operations.specs.Operations as model
-use Rattle.replay.specs.Replay.{nextOf, rowsOf, Placed}
+use Rattle.replay.specs.Replay.{nextNamed, rowsOf, Placed}
 use Rattle.store.specs.Layout.{word, entryStart, Packed, base}
 use Rattle.answers.specs.Answers.{Requested}
-use Rattle.answers.specs.Laws.Entries.{EntryRead}
-use Rattle.answers.specs.Laws.Requests.{Carrying, carry-start, carry-past, one-kind, next-fits, carry-out}
+use Rattle.answers.specs.Laws.Entries.{EntryOperation}
+use Rattle.answers.specs.Laws.Requests.{Replaying, carry-start, carry-past, one-kind, next-fits, carry-out}
 use Rattle.answers.specs.Laws.Requests.{carry-own, carry-counted, carry-end}
 use Rattle.answers.proofs.answer.Statement.{statement}
 use Rattle.answers.proofs.answer.Tie as tie
@@ -18,7 +18,7 @@ use Rattle.answers.proofs.answer.Tie as tie
 abbrev Inv-loop : tie.InvT-loop
 Inv-loop book object operation entries rows₀ count₀ i₀ rows count i =
     (requested : model.Operation) → Requested book object operation requested
-    → Carrying book object requested i rows count
+    → Replaying book object requested i rows count
 
 abbrev μ-loop : tie.MeasureT-loop
 μ-loop book object operation entries rows₀ count₀ i₀ rows count i = entries - i
@@ -53,7 +53,7 @@ abbrev requested : tie.At-loop Inv-loop μ-loop → model.Operation
 requested c = begin c .pre .3 .0
 
 abbrev carrying : (c : tie.At-loop Inv-loop μ-loop) →
-    Carrying (begin c .args .book .now) (begin c .args .object) (requested c) (c .loop .i) (c .loop .rows)
+    Replaying (begin c .args .book .now) (begin c .args .object) (requested c) (c .loop .i) (c .loop .rows)
     (c .loop .count)
 carrying c = c .loop .inv (requested c) (begin c .pre .3 .1)
 
@@ -81,7 +81,7 @@ own c =
     sym (tested .wide .ensures ∙ tested .before .entry-object .ensures) ∙ c .before .if1 .taken
 
 entry : (c : tie.After-entry-operation Inv-loop μ-loop) → let at-loop = in-loop c .before in
-    EntryRead (begin at-loop .args .book .now) (at-loop .loop .i) (c .entry-operation .result)
+    EntryOperation (begin at-loop .args .book .now) (at-loop .loop .i) (c .entry-operation .result)
 entry c =
     record { packed = packed (in-loop c .before); inside = inside (in-loop c); words = c .entry-operation .ensures }
 
@@ -100,7 +100,7 @@ ready : (c : tie.After-place Inv-loop μ-loop) → let read = c .before .before 
     let at-loop = in-loop read .before in
     let rows = rowsOf (at-loop .loop .rows) (at-loop .loop .count) in
     let operation = read .entry-operation .result in
-    (at-loop .loop .count ≤ 64) × (length (nextOf operation rows) ≤ 64) × Placed operation rows (c .place .result)
+    (at-loop .loop .count ≤ 64) × (length (nextNamed operation rows) ≤ 64) × Placed operation rows (c .place .result)
 ready c =
     let read = c .before .before .before .before in
     let at-loop = in-loop read .before in
@@ -154,14 +154,14 @@ place-requires-2 c κs =
     (requested at-loop) (at-loop .loop .rows)
     (at-loop .loop .count) (carrying at-loop)
 
-reply-requires : tie.Need-reply-requires Inv-loop μ-loop
-reply-requires c κs = (place-requires-2 (c .before .before) κs, c .before .place2 .ensures)
+answer-requires : tie.Need-answer-requires Inv-loop μ-loop
+answer-requires c κs = (place-requires-2 (c .before .before) κs, c .before .place2 .ensures)
 
 returns : tie.Need-returns Inv-loop μ-loop
 returns c =
     let after = c .before .before .before .before in
     let at-loop = after .before in
-    c .reply .ensures
+    c .answer .ensures
     ∙ carry-end (begin at-loop .args .book .now) (begin at-loop .args .object) (at-loop .loop .i) (ended after)
     (requested at-loop) (at-loop .loop .rows)
     (at-loop .loop .count) (carrying at-loop) (begin at-loop .args .operation) (begin at-loop .pre .3 .1 .named)
@@ -187,5 +187,5 @@ answer-spec =
     (λ c. search needs)
     loop-again
     place-requires-2
-    reply-requires
+    answer-requires
     returns)

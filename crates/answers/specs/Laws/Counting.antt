@@ -6,12 +6,14 @@ use mathlib.Core.List.{List}
 use native.Mathlib.Omega.{arith}
 use lib.ListN.{length}
 use Rattle.operations.specs.declared.Operation.{Operation}
+use Rattle.operations.specs.Operations.{adds}
 use Rattle.store.specs.Store.{objectOf}
-use Rattle.store.specs.Layout.{word, decode, entryStart, operationAt, entryAt, objectStart, adds, additions, Packed}
+use Rattle.store.specs.Layout.{word, decode, entryStart, operationAt, entryAt, objectStart, additions, Packed}
 use Rattle.store.specs.Layout.{base}
+use Rattle.store.specs.Laws.Entries.{entriesFrom, entries-own, entries-other, entries-end}
 use Rattle.store.specs.Laws.Capacity.{additions-first}
-use Rattle.answers.specs.Answers.{entriesFrom, rowsNeeded}
-use Rattle.answers.specs.Laws.Entries.{entries-own, entries-other, entries-end, EntryRead, needs-rows, needed-few}
+use Rattle.answers.specs.Answers.{rowsNeeded}
+use Rattle.answers.specs.Laws.Entries.{EntryOperation, needs-rows, needed-few}
 use Rattle.answers.specs.Laws.Whole.{row-count, rows-read}
 
 -- Counted up to entry i: with what the entries from there on may need, it is all that the object uses.
@@ -40,16 +42,16 @@ module _ (w : List ℕ) (o i : ℕ) (l : i < word w 0) (other : word w (entrySta
       record {
         within = omega arith;
         bounded = omega (arith, s .bounded);
-        left = rw (← entries-other w o i l other) (s .left);
+        left = rw (← entries-other w i o l other) (s .left);
       }
 
 -- At an entry of the object.
-module _ {w : List ℕ} {i : ℕ} {operation : Operation} (at : EntryRead w i operation) (o : ℕ)
+module _ {w : List ℕ} {i : ℕ} {operation : Operation} (at : EntryOperation w i operation) (o : ℕ)
     (own : word w (entryStart i + 1) ≡ o) where
   pub counted-here : additions (entriesFrom w o i)
       ≡ cond (adds (operationAt w i)) 1 0 + additions (entriesFrom w o (i + 1))
   counted-here =
-      ap additions (entries-own w o i (at .inside) own) ∙ additions-first (entryAt w i .entry) (entriesFrom w o (i + 1))
+      ap additions (entries-own w i o (at .inside) own) ∙ additions-first (entryAt w i .entry) (entriesFrom w o (i + 1))
 
   pub count-own : (used n : ℕ) → Counting w o i used → n ≡ rowsNeeded (operation .number)
       → Counting w o (i + 1) (used + n)
@@ -62,4 +64,4 @@ module _ {w : List ℕ} {i : ℕ} {operation : Operation} (at : EntryRead w i op
 
 pub count-end : (w : List ℕ) (o i : ℕ) → word w 0 ≤ i → (used : ℕ) → Counting w o i used
     → used ≡ base .used (decode base w) o
-count-end w o i l used s = omega (arith, ap additions (entries-end w o i l), s .left)
+count-end w o i l used s = omega (arith, ap additions (entries-end w i o l), s .left)

@@ -9,7 +9,8 @@ single-requires c κs = search needs
 
 returns : tie.Need-returns
 returns c =
-    removed (c .before .args .set) (c .single .result) (c .before .args .transaction) (c .before .fits .set .fits) (c .single .ok) (c .single .ensures)
+    removed (c .before .args .set) (c .single .result) (c .before .args .transaction) (c .before .fits .set .fits)
+    (c .single .ok) (c .single .ensures)
 
 pub without-spec : {M : Type 1} → statement M
 without-spec = tie.close (tie.spec single-requires returns)

@@ -6,7 +6,8 @@ use Rattle.capi.proofs.lending_desk_cancel.Statement.{statement}
 use Rattle.capi.proofs.lending_desk_cancel.Tie as tie
 
 written : tie.Need-returns
-written c = exports ended _ _ _ (c .read .ensures) (c .before .before .before .before .before .cancel .ensures)
+written c = exports ended _ _ _ (c .numbers-of .ensures) (c .before .before .before .before .before .cancel .ensures)
 
 pub lending-desk-cancel-spec : {M : Type 1} → statement M
-lending-desk-cancel-spec = tie.close (tie.spec (λ c κs. search needs) (λ c κs. search needs) (λ c. search needs) (λ c. search needs) written)
+lending-desk-cancel-spec =
+    tie.close (tie.spec (λ c κs. search needs) (λ c κs. search needs) (λ c. search needs) (λ c. search needs) written)

@@ -4,7 +4,7 @@ use mathlib.Core.Path.{ap, _∙_}
 use native.Mathlib.Omega.{arith}
 use borrow.Author.Needs.{needs}
 use Rattle.store.specs.Layout.{objectStart}
-use Rattle.capi.specs.Exported.{numbersOf}
+use Rattle.codes.specs.Codes.{numbersOf}
 use Rattle.capi.specs.Laws.{within, accepted-part, refused-part}
 use Rattle.capi.proofs.lending_desk_contents.Statement.{statement}
 use Rattle.capi.proofs.lending_desk_contents.Tie as tie
@@ -12,20 +12,30 @@ use Rattle.capi.proofs.lending_desk_contents.Tie as tie
 low : (c : tie.After-wide) → c .wide .result < 16
 low c =
     let read = c .before .before .before in
-    let object = within _ _ _ (read .read .ensures ∙ ap numbersOf (read .before .contents-count .ensures)) (c .before .if1 .taken) in
+    let object =
+    within _ _ _ (read .numbers-of .ensures ∙ ap numbersOf (read .before .contents-count .ensures))
+    (c .before .if1 .taken) in
     omega (arith, c .wide .ensures, object)
 
+rows-start-requires : tie.Need-rows-start-requires
+rows-start-requires c κs = low c
+
 cast-start : tie.Need-cast-start
-cast-start c = omega (arith, low c)
+cast-start c = omega (arith, low (c .before), c .rows-start .ensures)
 
 accepted : tie.Need-returns
 accepted c =
-    let read = c .before .before .before in
-    accepted-part _ _ _ (read .read .ensures ∙ ap numbersOf (read .before .contents-count .ensures)) (c .before .if1 .taken) _
-    (ap (λ (o : ℕ). objectStart o + 2) (c .wide .ensures))
+    let widened = c .before in
+    let read = widened .before .before .before in
+    accepted-part _ _ _ (read .numbers-of .ensures ∙ ap numbersOf (read .before .contents-count .ensures))
+    (widened .before .if1 .taken) _
+    (c .rows-start .ensures ∙ ap (λ (o : ℕ). objectStart o + 2) (widened .wide .ensures))
 
 refused : tie.Need-returns-2
-refused c = refused-part _ _ _ (c .before .before .read .ensures ∙ ap numbersOf (c .before .before .before .contents-count .ensures)) (c .if1 .left)
+refused c =
+    let read = c .before .before in
+    refused-part _ _ _ (read .numbers-of .ensures ∙ ap numbersOf (read .before .contents-count .ensures))
+    (c .if1 .left)
 
 pub lending-desk-contents-spec : {M : Type 1} → statement M
 lending-desk-contents-spec =
@@ -34,9 +44,7 @@ lending-desk-contents-spec =
     (λ c κs. search needs)
     (λ c κs. search needs)
     (λ c κs. search needs)
-    (λ c. search needs)
-    (λ c. search needs)
-    (λ c. search needs)
+    rows-start-requires
     cast-start
     accepted
     refused)

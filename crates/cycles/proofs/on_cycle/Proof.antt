@@ -7,7 +7,8 @@ use Rattle.cycles.proofs.on_cycle.Tie as tie
 returns : tie.Need-returns
 returns c =
     let start = c .before .before in
-    on-way (start .args .edges .now) (start .args .through) (start .args .transaction) (c .before .reached .result) (start .fits .through .fits) (start .pre)
+    on-way (start .args .edges .now) (start .args .through) (start .args .transaction) (c .before .reached .result)
+    (start .fits .through .fits) (start .pre)
     (c .before .reached .ensures) (c .contains .result) (c .contains .ensures)
 
 pub on-cycle-spec : {M : Type 1} → statement M

@@ -1,4 +1,5 @@
--- `cycles::reached`: the search goes on until nothing is left to expand; each turn one is expanded, so that what is left is less.
+-- `cycles::reached`: the search goes on until nothing is left to expand; each turn one is expanded, so that what is
+-- left is less.
 use borrow.Author.Needs.{needs}
 use Rattle.cycles.specs.Laws.{Search, begun, turned, ended, in-both, rest-less}
 use Rattle.cycles.proofs.reached.Statement.{statement}
@@ -14,7 +15,8 @@ loop-holds : tie.Need-loop-holds Inv-loop μ-loop
 loop-holds c = begun _ _ _ _ (c .dependencies .ensures)
 
 returns : tie.Need-returns Inv-loop μ-loop
-returns c = ended _ _ _ _ _ (c .before .meet .result) (c .before .before .loop .inv) (c .before .meet .ensures) (c .if1 .taken)
+returns c =
+    ended _ _ _ _ _ (c .before .meet .result) (c .before .before .loop .inv) (c .before .meet .ensures) (c .if1 .taken)
 
 lowest-requires : tie.Need-lowest-requires Inv-loop μ-loop
 lowest-requires c κs = c .if1 .left
@@ -29,7 +31,8 @@ loop-again : tie.Need-loop-again Inv-loop μ-loop
 loop-again c =
     let next = c .before .before .before in
     let both = in-both _ _ _ _ (next .before .before .meet .ensures) (next .lowest .ensures .member) in
-    turned _ _ _ _ _ _ _ _ _ (next .before .before .before .loop .inv) both (c .before .dependencies2 .ensures) (c .join .ensures) (c .before .before .without .ensures)
+    turned _ _ _ _ _ _ _ _ _ (next .before .before .before .loop .inv) both (c .before .dependencies2 .ensures)
+    (c .join .ensures) (c .before .before .without .ensures)
 
 pub reached-spec : {M : Type 1} → statement M
 reached-spec =

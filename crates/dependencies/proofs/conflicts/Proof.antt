@@ -6,7 +6,7 @@ use lib.ListN.{length, length-set}
 use Rattle.bitset.specs.Bitset.{Holds, Represents}
 use Rattle.operations.specs.PairRules.{commutes}
 use Rattle.store.specs.Layout.{word}
-use Rattle.representatives.specs.Representatives.{transactionAt, InLog}
+use Rattle.representatives.specs.Representatives.{entryTransaction, InLog}
 use Rattle.representatives.specs.Laws.Reading.{readable}
 use Rattle.dependencies.specs.Dependencies.{BarsBelow, Unrecoverable, Gathered}
 use Rattle.dependencies.specs.Laws.Rows.{gathered-none}
@@ -81,7 +81,8 @@ entry-transaction-requires c κs = let l = inside (turned c) in (l .0 .words, om
 -- The requester is the entry's transaction.
 requester : (c : tie.After-wide Inv-loop μ-loop)
     → (let turn = turned (c .before .before) in
-    (c .wide .result ≡ transactionAt (start-of turn .args .book .now) (turn .before .loop .i)) × (c .wide .result < 64))
+    (c .wide .result ≡ entryTransaction (start-of turn .args .book .now) (turn .before .loop .i))
+    × (c .wide .result < 64))
 requester c =
     let turn = turned (c .before .before) in
     let l = inside turn in

@@ -1,7 +1,7 @@
 -- `dependencies::first` meets its contract.
 use mathlib.Core.Path.{sym, ap}
 use Rattle.operations.specs.PairRules.{firstNumber}
-use Rattle.pairs.specs.Laws.{numbered-stack, numbered-set, numbered-table}
+use Rattle.operations.specs.Laws.Numbers.{numbered-stack, numbered-set, numbered-table}
 use Rattle.dependencies.proofs.first.Statement.{statement}
 use Rattle.dependencies.proofs.first.Tie as tie
 

@@ -8,7 +8,7 @@ use native.Mathlib.Nat.{not-suc-le-zero, zero-lt-suc}
 use native.Mathlib.Omega.{arith}
 use borrow.Author.Tests.{eq-eqb, eqb-true}
 use lib.Dec.{eqb}
-use Rattle.operations.specs.Operations.{Kind, Operation, Reply, kindOf, All, reduceKey}
+use Rattle.operations.specs.Operations.{Kind, Operation, Answer, kindOf, All}
 use Rattle.operations.specs.Log.{Entry, Recovers, Recoverable}
 use Rattle.operations.specs.PairRules.{recoverable, commutes}
 use Rattle.operations.specs.Laws.Cases.{split}
@@ -18,14 +18,14 @@ use Rattle.store.specs.Dependency.{Conflict, DependsOn}
 use Rattle.store.specs.Layout.{word, tabulate, entryAt, operationAt, base, decode}
 use Rattle.store.specs.Soundness.{EntriesFit, EntriesRecoverable}
 use Rattle.store.specs.Laws.Lists.{follows-some, follows-of, PairBelow}
-use Rattle.representatives.specs.Representatives.{transactionAt, objectAt}
+use Rattle.representatives.specs.Representatives.{entryTransaction, entryObject}
 use Rattle.representatives.specs.Laws.Reading.{of-kind}
 use Rattle.dependencies.specs.Dependencies.{Fails, BarsBelow, Unrecoverable}
 
 -- ---- Entries of one object
 
 module _ (o : ℕ) where
-  all-on : (P : Entry Operation Reply → Type 0) (n : ℕ) (f : ℕ → Logged) → All P (onObject o (tabulate n f))
+  all-on : (P : Entry Operation Answer → Type 0) (n : ℕ) (f : ℕ → Logged) → All P (onObject o (tabulate n f))
       → (i : ℕ) → i < n → f i .object ≡ o → P (f i .entry)
   unfolding tabulate
   all-on P zero f p i l e = absurd (not-suc-le-zero l)
@@ -35,7 +35,7 @@ module _ (o : ℕ) where
       (λ (t : eqb (f 0 .object) o ≡ true). all-on P n (λ j. f (suc j)) ((rw t at p) .1) i (omega arith) e)
       (λ (t : eqb (f 0 .object) o ≡ false). all-on P n (λ j. f (suc j)) (rw t at p) i (omega arith) e)
 
-  on-all : (P : Entry Operation Reply → Type 0) (n : ℕ) (f : ℕ → Logged)
+  on-all : (P : Entry Operation Answer → Type 0) (n : ℕ) (f : ℕ → Logged)
       → ((i : ℕ) → i < n → f i .object ≡ o → P (f i .entry))
       → All P (onObject o (tabulate n f))
   unfolding tabulate
@@ -48,14 +48,14 @@ module _ (o : ℕ) where
       (λ (t : eqb (f 0 .object) o ≡ false). rw t rest)
 
   module _ (kind : Kind) where
-    recoverable-each : (n : ℕ) (f : ℕ → Logged) → Recoverable (object reduceKey kind) (onObject o (tabulate n f))
+    recoverable-each : (n : ℕ) (f : ℕ → Logged) → Recoverable recoverable (onObject o (tabulate n f))
         → (j i : ℕ) → j < i → i < n → f j .object ≡ o → f i .object ≡ o
-        → Recovers (object reduceKey kind) (f j .entry) (f i .entry)
+        → Recovers recoverable (f j .entry) (f i .entry)
     unfolding tabulate
     recoverable-each zero f p j i l m d e = absurd (not-suc-le-zero m)
     recoverable-each (suc n) f p j zero l m d e = absurd (not-suc-le-zero l)
     recoverable-each (suc n) f p zero (suc i) l m d e =
-        all-on (Recovers (object reduceKey kind) (f 0 .entry)) n (λ j. f (suc j))
+        all-on (Recovers recoverable (f 0 .entry)) n (λ j. f (suc j))
         ((rw (eq-eqb (f 0 .object) o d) at p) .0) i (omega arith) e
     recoverable-each (suc n) f p (suc j) (suc i) l m d e =
         split (eqb (f 0 .object) o)
@@ -66,17 +66,17 @@ module _ (o : ℕ) where
 
     recoverable-of : (n : ℕ) (f : ℕ → Logged)
         → ((j i : ℕ) → j < i → i < n → f j .object ≡ o → f i .object ≡ o
-        → Recovers (object reduceKey kind) (f j .entry) (f i .entry))
-        → Recoverable (object reduceKey kind) (onObject o (tabulate n f))
+        → Recovers recoverable (f j .entry) (f i .entry))
+        → Recoverable recoverable (onObject o (tabulate n f))
     unfolding tabulate
     recoverable-of zero f h = tt
     recoverable-of (suc n) f h =
-        let rest : Recoverable (object reduceKey kind) (onObject o (tabulate n (λ j. f (suc j)))) =
+        let rest : Recoverable recoverable (onObject o (tabulate n (λ j. f (suc j)))) =
         recoverable-of n (λ j. f (suc j)) (λ j i l m. h (suc j) (suc i) (omega arith) (omega arith)) in
         split (eqb (f 0 .object) o)
         (λ (t : eqb (f 0 .object) o ≡ true).
         rw t (
-          on-all (Recovers (object reduceKey kind) (f 0 .entry)) n (λ j. f (suc j))
+          on-all (Recovers recoverable (f 0 .entry)) n (λ j. f (suc j))
               (λ i m e. h 0 (suc i) (zero-lt-suc i) (omega arith) (eqb-true (f 0 .object) o t) e),
           rest,
         ))
@@ -85,22 +85,22 @@ module _ (o : ℕ) where
 -- ---- The clauses
 
 against : (related : Operation → Operation → Bool) (w : List ℕ) (n j i : ℕ) → j < i → i < n → Fails related w i j
-    → BarsBelow related w n (transactionAt w i) (transactionAt w j)
+    → BarsBelow related w n (entryTransaction w i) (entryTransaction w j)
 against related w n j i l m f = (i, m, (refl, (j, l, (refl, f))))
 
 module _ (w : List ℕ) where
   pub recoverable-none : EntriesFit (decode base w)
-      → EntriesRecoverable base (decode base w) ↔ ((b : ℕ) → Unrecoverable w (word w 0) b → ⊥)
+      → EntriesRecoverable (decode base w) ↔ ((b : ℕ) → Unrecoverable w (word w 0) b → ⊥)
   recoverable-none fits = (there, back)
     where
-      there : EntriesRecoverable base (decode base w) → (b : ℕ) → Unrecoverable w (word w 0) b → ⊥
+      there : EntriesRecoverable (decode base w) → (b : ℕ) → Unrecoverable w (word w 0) b → ⊥
       there h b (a, (i, m, (p, (j, l, (q, f))))) =
           true≢false
-          (sym (recoverable-each (objectAt w i) (kindOf (operationAt w i)) (word w 0) (entryAt w)
-          (h (objectAt w i) (kindOf (operationAt w i)) (of-kind w fits i m))
+          (sym (recoverable-each (entryObject w i) (kindOf (operationAt w i)) (word w 0) (entryAt w)
+          (h (entryObject w i) (kindOf (operationAt w i)) (of-kind w fits i m))
           j i l m (f .object) refl (λ e. f .other (sym e))) ∙ f .fails)
 
-      back : ((b : ℕ) → Unrecoverable w (word w 0) b → ⊥) → EntriesRecoverable base (decode base w)
+      back : ((b : ℕ) → Unrecoverable w (word w 0) b → ⊥) → EntriesRecoverable (decode base w)
       back h o kind e =
           recoverable-of o kind (word w 0) (entryAt w)
           (λ j i l m d f other.
@@ -108,8 +108,8 @@ module _ (w : List ℕ) where
           (λ (t : recoverable (operationAt w i) (operationAt w j) ≡ true). t)
           (λ (t : recoverable (operationAt w i) (operationAt w j) ≡ false).
           absurd
-          (h (transactionAt w j) (
-            transactionAt w i,
+          (h (entryTransaction w j) (
+            entryTransaction w i,
             against recoverable w (word w 0) j i l m
                 (record { object = d ∙ sym f; other = λ q. other (sym q); fails = t }),
           ))))

@@ -11,7 +11,7 @@ use Rattle.bitset.specs.Bitset.{has, Members, Holds, Represents}
 use Rattle.store.specs.Layout.{word, base, decode}
 use Rattle.store.specs.Soundness.{EntriesFit, EntriesRecoverable}
 use Rattle.store.specs.Dependency.{DependsOn}
-use Rattle.representatives.specs.Representatives.{transactionAt}
+use Rattle.representatives.specs.Representatives.{entryTransaction}
 use Rattle.dependencies.specs.Dependencies.{Bars, BarsBelow, Unrecoverable}
 use Rattle.dependencies.specs.Laws.Sets.{some-none, some-more, holds-none, holds-same, holds-join}
 use Rattle.dependencies.specs.Laws.Sets.{holds-empty, represents-same, blank-row, represents-join}
@@ -21,14 +21,14 @@ module _ (w : List ℕ) where
   pub dependencies-none : (sets : List ℕ) → sets ≡ replicate 64 0 → Represents sets (BarsBelow commutes w 0)
   dependencies-none sets empty =
       subst (λ (l : List ℕ). Represents l (BarsBelow commutes w 0)) (sym empty)
-      (blank-row 64 (BarsBelow commutes w 0) (λ a b. some-none (λ i. (transactionAt w i ≡ a) × Bars commutes w i b)))
+      (blank-row 64 (BarsBelow commutes w 0) (λ a b. some-none (λ i. (entryTransaction w i ≡ a) × Bars commutes w i b)))
 
   pub unrecoverable-none : Holds 0 (Unrecoverable w 0)
   unrecoverable-none =
       holds-none (Unrecoverable w 0)
-      (λ b u. some-none (λ i. (transactionAt w i ≡ u .0) × Bars recoverable w i b) (u .1))
+      (λ b u. some-none (λ i. (entryTransaction w i ≡ u .0) × Bars recoverable w i b) (u .1))
 
-  pub dependencies-more : (sets : List ℕ) (i t conflicting joined : ℕ) → t ≡ transactionAt w i → t < length sets
+  pub dependencies-more : (sets : List ℕ) (i t conflicting joined : ℕ) → t ≡ entryTransaction w i → t < length sets
       → Represents sets (BarsBelow commutes w i)
       → Holds conflicting (Bars commutes w i) → Members joined (λ b. has (getD sets t 0) b || has conflicting b)
       → Represents (set sets t joined) (BarsBelow commutes w (i + 1))
@@ -36,7 +36,7 @@ module _ (w : List ℕ) where
       represents-same (λ a b. BarsBelow commutes w i a b ⊎ ((t ≡ a) × Bars commutes w i b))
       (BarsBelow commutes w (i + 1)) (set sets t joined)
       (represents-join (BarsBelow commutes w i) (Bars commutes w i) sets t conflicting joined h c l m)
-      (λ a b. rw own (some-more (λ k. (transactionAt w k ≡ a) × Bars commutes w k b) i))
+      (λ a b. rw own (some-more (λ k. (entryTransaction w k ≡ a) × Bars commutes w k b) i))
 
   pub unrecoverable-more : (i u v joined : ℕ) → Holds u (Unrecoverable w i) → Holds v (Bars recoverable w i)
       → Members joined (λ b. has u b || has v b) → Holds joined (Unrecoverable w (i + 1))
@@ -44,18 +44,18 @@ module _ (w : List ℕ) where
       holds-same (λ b. Unrecoverable w i b ⊎ Bars recoverable w i b) (Unrecoverable w (i + 1)) joined
       (holds-join (Unrecoverable w i) (Bars recoverable w i) u v joined h g m)
       (λ b.
-      let more : (a : ℕ) → (BarsBelow recoverable w i a b ⊎ ((transactionAt w i ≡ a) × Bars recoverable w i b))
+      let more : (a : ℕ) → (BarsBelow recoverable w i a b ⊎ ((entryTransaction w i ≡ a) × Bars recoverable w i b))
       ↔ BarsBelow recoverable w (i + 1) a b =
-      λ a. some-more (λ k. (transactionAt w k ≡ a) × Bars recoverable w k b) i in (
+      λ a. some-more (λ k. (entryTransaction w k ≡ a) × Bars recoverable w k b) i in (
         ⊎-elim (λ f. (f .0, more (f .0) .0 (inl (f .1))))
-            (λ f. (transactionAt w i, more (transactionAt w i) .0 (inr (refl, f)))),
+            (λ f. (entryTransaction w i, more (entryTransaction w i) .0 (inr (refl, f)))),
         λ f. ⊎-elim (λ x. inl (f .0, x)) (λ x. inr (x .1)) (more (f .0) .1 (f .1)),
       ))
 
   module _ (fits : EntriesFit (decode base w)) where
     pub decided : (sets : List ℕ) (u : ℕ) → Represents sets (BarsBelow commutes w (word w 0))
         → Holds u (Unrecoverable w (word w 0))
-        → ((eqb u 0 ≡ true) ↔ EntriesRecoverable base (decode base w))
+        → ((eqb u 0 ≡ true) ↔ EntriesRecoverable (decode base w))
         × Represents sets (DependsOn (decode base w .log))
     decided sets u h g =
         let recoverable = recoverable-none w fits in
@@ -65,10 +65,11 @@ module _ (w : List ℕ) where
         )
 
     pub decided-none : (sets : List ℕ) → sets ≡ replicate 64 0 → word w 0 ≡ 0
-        → ((true ≡ true) ↔ EntriesRecoverable base (decode base w)) × (length sets ≡ 64)
+        → ((true ≡ true) ↔ EntriesRecoverable (decode base w)) × (length sets ≡ 64)
         × Represents sets (DependsOn (decode base w .log))
     decided-none sets empty e =
         let (recoverable, represented) =
-        decided sets 0 (subst (λ (k : ℕ). Represents sets (BarsBelow commutes w k)) (sym e) (dependencies-none sets empty))
+        decided sets 0
+        (subst (λ (k : ℕ). Represents sets (BarsBelow commutes w k)) (sym e) (dependencies-none sets empty))
         (subst (λ (k : ℕ). Holds 0 (Unrecoverable w k)) (sym e) unrecoverable-none) in
         (recoverable, ap length empty, represented)

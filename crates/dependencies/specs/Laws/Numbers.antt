@@ -1,22 +1,20 @@
 -- Operations by number: their kinds and columns, and what the rules pick.
-use Prim.Native.Nat.{ℕ, _+_, _≤_, _<_}
+use Prim.Native.Nat.{ℕ, _+_, _-_, _≤_}
 use mathlib.Core.Path.{_≡_, refl, ap, _∙_}
 use mathlib.Core.Bool.{true, false, _||_, true≢false}
 use mathlib.Core.Logic.{_⊎_, inl, inr}
 use mathlib.Core.List.{List}
 use native.Mathlib.Omega.{arith}
-use borrow.Author.Tests.{leb-true, leb-false, eqb-true, not-false}
-use lib.Dec.{leb, eqb}
+use borrow.Author.Tests.{eqb-true, not-false}
+use lib.Dec.{eqb}
 use lib.ListN.{getD}
-use Rattle.operations.specs.Operations.{Kind, Stack, Set, Table, Operation, onStack, onSet, onTable}
-use Rattle.operations.specs.Operations.{push, pop, top, setInsert, setDelete, member}
-use Rattle.operations.specs.Operations.{tableInsert, tableDelete, lookup, size, modify, kindOf, numberOf, keyOf}
+use Rattle.operations.specs.Operations.{Kind, Stack, Set, Table, kindNumber, Operation, keyOf}
 use Rattle.operations.specs.PairRules.{Rule, always, never, apart, Rules, allows, ruleAt, firstNumber, lastNumber}
-use Rattle.operations.specs.Laws.Cases.{split}
+use Rattle.operations.specs.PairRules.{Numbered, kindNumbered}
+use Rattle.operations.specs.Laws.Numbers.{within-kind}
 use Rattle.bitset.specs.Bitset.{has, Members, Holds}
 use Rattle.bitset.specs.Laws.{nobody-in}
-use Rattle.pairs.specs.Pairs.{codeOf, codeAt, Numbered, kindNumbered, firstOf, lastOf, columnOf, widthOf}
-use Rattle.pairs.specs.Laws.{numbered-stack, numbered-set, numbered-table}
+use Rattle.pairs.specs.Pairs.{codeOf, codeAt, firstOf, lastOf, columnOf}
 use Rattle.dependencies.specs.Dependencies.{keyColumn, picked, pickedAt, Picked}
 use Rattle.dependencies.specs.Laws.Sets.{some-none, some-more, holds-none, holds-same, holds-join}
 
@@ -29,53 +27,25 @@ pub record Ranged (number : ℕ) : Type 0 where
   pub width : lastOf number ≤ firstOf number + 4
 
 pub ranged : (number : ℕ) → Numbered number → Ranged number
-ranged number (l, m) =
-    split (leb number 3)
-    (λ (e : leb number 3 ≡ true).
-    of-kind Stack (numbered-stack number (leb-true number 3 e)) (omega (arith, leb-true number 3 e)))
-    (λ (e : leb number 3 ≡ false).
-    split (leb number 6)
-    (λ (f : leb number 6 ≡ true).
-    of-kind Set (numbered-set number (leb-false number 3 e) (leb-true number 6 f))
-    (omega (arith, leb-false number 3 e, leb-true number 6 f)))
-    (λ (f : leb number 6 ≡ false).
-    of-kind Table (numbered-table number (leb-false number 6 f)) (omega (arith, leb-false number 6 f))))
+ranged number numbered =
+    let range = within-kind number numbered (kindNumbered number) refl in
+    record { least = range .0; most = range .1; width = widths (kindNumbered number) }
   where
     widths : (kind : Kind) → lastNumber kind ≤ firstNumber kind + 4
     widths Stack = omega arith
     widths Set = omega arith
     widths Table = omega arith
 
-    of-kind : (kind : Kind) → kindNumbered number ≡ kind → (firstNumber kind ≤ number) × (number ≤ lastNumber kind)
-        → Ranged number
-    of-kind kind e r =
-        let f : firstOf number ≡ firstNumber kind = ap firstNumber e in
-        let g : lastOf number ≡ lastNumber kind = ap lastNumber e in
-        let w = widths kind in
-        record { least = omega arith; most = omega arith; width = omega arith }
+-- How many operations a kind has.
+pub broad : (kind : Kind) → kindNumber kind ≡ 3 → lastNumber kind + 1 - firstNumber kind ≡ 5
+broad Stack e = absurd (omega arith)
+broad Set e = absurd (omega arith)
+broad Table e = refl
 
-pub narrow : (number : ℕ) → number ≤ 6 → widthOf number ≡ 3
-narrow number l =
-    split (leb number 3) (λ (e : leb number 3 ≡ true). rw (numbered-stack number (leb-true number 3 e)))
-    (λ (e : leb number 3 ≡ false). rw (numbered-set number (leb-false number 3 e) l))
-
-pub broad : (number : ℕ) → 6 < number → widthOf number ≡ 5
-broad number l = rw (numbered-table number l)
-
--- Of an operation: its number's kind is its own.
-pub placed : (o : Operation) → (kindNumbered (numberOf o) ≡ kindOf o) × Numbered (numberOf o)
-unfolding kindNumbered
-placed (onStack (push x)) = (refl, omega arith)
-placed (onStack pop) = (refl, omega arith)
-placed (onStack top) = (refl, omega arith)
-placed (onSet (setInsert k)) = (refl, omega arith)
-placed (onSet (setDelete k)) = (refl, omega arith)
-placed (onSet (member k)) = (refl, omega arith)
-placed (onTable (tableInsert k v)) = (refl, omega arith)
-placed (onTable (tableDelete k)) = (refl, omega arith)
-placed (onTable (lookup k)) = (refl, omega arith)
-placed (onTable size) = (refl, omega arith)
-placed (onTable (modify k v)) = (refl, omega arith)
+pub narrow : (kind : Kind) → (kindNumber kind ≡ 3 → ⊥) → lastNumber kind + 1 - firstNumber kind ≡ 3
+narrow Stack n = refl
+narrow Set n = refl
+narrow Table n = absurd (n refl)
 
 -- ---- What a rule picks
 

@@ -13,24 +13,25 @@ use Rattle.operations.specs.Laws.Cases
 use Rattle.operations.specs.Laws.Cases.{split}
 use Rattle.bitset.specs.Bitset.{has, Represents}
 use Rattle.pairs.specs.Pairs.{columnOf}
-use Rattle.representatives.specs.Representatives.{transactionAt, numberAt, Representative}
+use Rattle.representatives.specs.Representatives.{entryTransaction, entryNumber, Representative}
 use Rattle.representatives.specs.Laws.Firsts.{alike-back, alike-both, firsts-apart}
-use Rattle.dependencies.specs.Dependencies.{keyColumn, EntryRead, Owned, Row, WithOwner, WithKeyOwner}
+use Rattle.dependencies.specs.Dependencies.{keyColumn, EntryRead, Owned, OwnersRow, WithOwner, WithKeyOwner}
 use Rattle.dependencies.specs.Dependencies.{On, AlikeByKey, Gathered}
 use Rattle.dependencies.specs.Laws.Sets.{some-none, some-more, represents-same, blank-row}
 
-row-same : (n : ℕ) (R S : ℕ → ℕ → Type 0) (row : List ℕ) → Row n row R → ((a b : ℕ) → R a b ↔ S a b) → Row n row S
+row-same : (n : ℕ) (R S : ℕ → ℕ → Type 0) (row : List ℕ) → OwnersRow n row R
+    → ((a b : ℕ) → R a b ↔ S a b) → OwnersRow n row S
 row-same n R S row r e = record { columns = r .columns; sets = represents-same R S row (r .sets) e }
 
 -- ---- One entry more
 
 module _ (n : ℕ) (column : ℕ → ℕ) (P : ℕ → Type 0) (w : List ℕ) (i : ℕ) (row : List ℕ)
-    (held : Row n row (Owned column P w i)) where
-  more : (m b : ℕ) → (Owned column P w i m b ⊎ (P i × (column (numberAt w i) ≡ m) × (transactionAt w i ≡ b)))
+    (held : OwnersRow n row (Owned column P w i)) where
+  more : (m b : ℕ) → (Owned column P w i m b ⊎ (P i × (column (entryNumber w i) ≡ m) × (entryTransaction w i ≡ b)))
       ↔ Owned column P w (i + 1) m b
-  more m b = some-more (λ j. P j × (column (numberAt w j) ≡ m) × (transactionAt w j ≡ b)) i
+  more m b = some-more (λ j. P j × (column (entryNumber w j) ≡ m) × (entryTransaction w j ≡ b)) i
 
-  row-kept : (P i → ⊥) → Row n row (Owned column P w (i + 1))
+  row-kept : (P i → ⊥) → OwnersRow n row (Owned column P w (i + 1))
   row-kept other =
       row-same n (Owned column P w i) (Owned column P w (i + 1)) row held
       (λ m b. (
@@ -38,10 +39,10 @@ module _ (n : ℕ) (column : ℕ → ℕ) (P : ℕ → Type 0) (w : List ℕ) (i
         λ x. ⊎-elim (λ y. y) (λ y. absurd (other (y .0))) (more m b .1 x),
       ))
 
-  row-added : (r : List ℕ) → P i → WithOwner n row (column (numberAt w i)) (transactionAt w i) r
-      → Row n r (Owned column P w (i + 1))
+  row-added : (r : List ℕ) → P i → WithOwner n row (column (entryNumber w i)) (entryTransaction w i) r
+      → OwnersRow n r (Owned column P w (i + 1))
   row-added r own with-owner =
-      row-same n (λ m b. (has (getD row m 0) b ≡ true) ⊎ ((column (numberAt w i) ≡ m) × (transactionAt w i ≡ b)))
+      row-same n (λ m b. (has (getD row m 0) b ≡ true) ⊎ ((column (entryNumber w i) ≡ m) × (entryTransaction w i ≡ b)))
       (Owned column P w (i + 1)) r with-owner
       (λ m b. (
         λ x. more m b .0 (⊎-elim (λ y. inl (held .sets m b .0 y)) (λ y. inr (own, y .0, y .1)) x),
@@ -62,17 +63,18 @@ module _ (w : List ℕ) (i : ℕ) (whole same : List (List ℕ)) (g : Gathered w
 
   -- The row of the entries like entry p, with entry i's owner where its key tells something.
   row-by-key : (p : ℕ) (s : List ℕ) → p < 256 → Representative w i p
-      → WithKeyOwner (getD same p []) (numberAt w i) (transactionAt w i) s
-      → Row 3 s (Owned keyColumn (AlikeByKey w p) w (i + 1))
+      → WithKeyOwner (getD same p []) (entryNumber w i) (entryTransaction w i) s
+      → OwnersRow 3 s (Owned keyColumn (AlikeByKey w p) w (i + 1))
   row-by-key p s n by added =
       let row = g .represented p n (by .first) in
-      split (ltb (keyColumn (numberAt w i)) 3)
-      (λ (e : ltb (keyColumn (numberAt w i)) 3 ≡ true).
-      let l = ltb-true (keyColumn (numberAt w i)) 3 e in
+      split (ltb (keyColumn (entryNumber w i)) 3)
+      (λ (e : ltb (keyColumn (entryNumber w i)) 3 ≡ true).
+      let l = ltb-true (keyColumn (entryNumber w i)) 3 e in
       row-added 3 keyColumn (AlikeByKey w p) w i (getD same p []) row s (alike-back w i p (by .alike), l)
       (added .added l))
-      (λ (e : ltb (keyColumn (numberAt w i)) 3 ≡ false).
-      let l : keyColumn (numberAt w i) < 3 → ⊥ = λ m. omega (arith, ltb-false (keyColumn (numberAt w i)) 3 e, m) in
+      (λ (e : ltb (keyColumn (entryNumber w i)) 3 ≡ false).
+      let l : keyColumn (entryNumber w i) < 3 → ⊥ =
+      λ m. omega (arith, ltb-false (keyColumn (entryNumber w i)) 3 e, m) in
       rw (added .kept l) (row-kept 3 keyColumn (AlikeByKey w p) w i (getD same p []) row (λ a. l (a .1))))
 
   pub gathered-more : (t o number p : ℕ) (r s : List ℕ) → EntryRead w i t o number → p < 256 → Representative w i p
@@ -110,13 +112,13 @@ vacant n = replicate n 0
 
 module _ (w : List ℕ) where
   row-none : (column : ℕ → ℕ) (P : ℕ → Type 0) (n k j : ℕ) → j < n
-      → Row k (getD (replicate n (vacant k)) j []) (Owned column P w 0)
+      → OwnersRow k (getD (replicate n (vacant k)) j []) (Owned column P w 0)
   row-none column P n k j l =
       rw (getD-replicate n j (vacant k) [] l)
       (record {
         columns = length-replicate k 0;
         sets = blank-row k (Owned column P w 0)
-            (λ m b. some-none (λ j. P j × (column (numberAt w j) ≡ m) × (transactionAt w j ≡ b)));
+            (λ m b. some-none (λ j. P j × (column (entryNumber w j) ≡ m) × (entryTransaction w j ≡ b)));
       })
 
   pub gathered-none : (n m : ℕ) → n ≡ 16 → m ≡ 256

@@ -65,7 +65,7 @@ pub represents-same : (R S : ℕ → ℕ → Type 0) (row : List ℕ) → Repres
 represents-same R S row r e a = holds-same (R a) (S a) (getD row a 0) (r a) (e a)
 
 -- Empty sets.
-pub blank : (n a : ℕ) → getD {A = ℕ} (replicate n 0) a 0 ≡ 0
+blank : (n a : ℕ) → getD {A = ℕ} (replicate n 0) a 0 ≡ 0
 blank zero a = refl
 blank (suc n) zero = refl
 blank (suc n) (suc a) = blank n a

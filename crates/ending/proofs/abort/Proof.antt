@@ -21,8 +21,8 @@ forget-requires c κs =
     let start = start (c .before .before .before) in
     (start .pre .0 .whole, active-below (start .args .book .now) (start .args .transaction) (start .pre .1))
 
-settle-requires : tie.Need-settle-requires
-settle-requires c κs =
+commit-ready-requires : tie.Need-commit-ready-requires
+commit-ready-requires c κs =
     let forget = c .before .before .before in
     let end = ended forget in
     let pre = start end .pre in
@@ -38,7 +38,7 @@ returns c =
     let pre = start end .pre in
     let args = start end .args in
     abort-settled (args .book .now) (args .edges .now) (args .finished) (pre .0) (args .transaction) (pre .1) _ _
-    (forget .forget .ensures) (end .end .ensures) _ _ _ _ (settle .settle .ensures)
+    (forget .forget .ensures) (end .end .ensures) _ _ _ _ (settle .commit-ready .ensures)
 
 pub abort-spec : {M : Type 1} → statement M
 abort-spec =
@@ -46,7 +46,7 @@ abort-spec =
     (tie.spec
     end-requires
     forget-requires
-    settle-requires
+    commit-ready-requires
     (λ c. search needs)
     (λ c. search needs)
     returns)

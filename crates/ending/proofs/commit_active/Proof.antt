@@ -17,7 +17,7 @@ committed c = c .before .before .before .before
 abbrev start : tie.After-commit → tie.Start
 start c = c .before .before .before .before
 
-abbrev forgotten : tie.After-settle → tie.After-forget
+abbrev forgotten : tie.After-commit-ready → tie.After-forget
 forgotten c = c .before .before .before .before
 
 commit-requires : tie.Need-commit-requires
@@ -28,13 +28,13 @@ commit-requires c κs =
 forget-requires : tie.Need-forget-requires
 forget-requires c κs = let start = start (c .before .before .before) in (start .pre .0 .whole, below start)
 
-part-settle-start : tie.Need-part-settle-start
-part-settle-start c =
+part-commit-ready-start : tie.Need-part-commit-ready-start
+part-commit-ready-start c =
     let start = start (committed (c .before .before)) in
     omega (arith, start .pre .3, length-set (start .args .list .now) 0 (start .args .transaction))
 
-settle-requires : tie.Need-settle-requires
-settle-requires c κs =
+commit-ready-requires : tie.Need-commit-ready-requires
+commit-ready-requires c κs =
     let forget = c .before .before .before in
     let commit = committed forget in
     let pre = start commit .pre in
@@ -54,7 +54,7 @@ add-result c =
       arith,
       commit-counted (args .book .now) (args .edges .now) (args .finished) (pre .0) (args .transaction) (pre .1) _ _
           (forget .forget .ensures) (pre .2) (commit .commit .ensures) (args .list .now) _ _ _
-          (settle .settle .ensures),
+          (settle .commit-ready .ensures),
     )
 
 same-length-2 : tie.Need-same-length-2
@@ -70,7 +70,7 @@ returns c =
     let pre = start commit .pre in
     let args = start commit .args in
     commit-first (args .book .now) (args .edges .now) (args .finished) (pre .0) (args .transaction) (pre .1) _ _
-    (forget .forget .ensures) (pre .2) (commit .commit .ensures) (args .list .now) _ _ _ (settle .settle .ensures)
+    (forget .forget .ensures) (pre .2) (commit .commit .ensures) (args .list .now) _ _ _ (settle .commit-ready .ensures)
     (omega (arith, pre .3))
 
 pub commit-active-spec : {M : Type 1} → statement M
@@ -81,10 +81,10 @@ commit-active-spec =
     forget-requires
     (λ c. omega (arith, below (start (committed c))))
     (λ c. search needs)
-    part-settle-start
-    part-settle-start
+    part-commit-ready-start
+    part-commit-ready-start
     (λ c. search needs)
-    settle-requires
+    commit-ready-requires
     add-result
     (λ c. search needs)
     same-length-2

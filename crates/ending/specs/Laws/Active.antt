@@ -26,7 +26,7 @@ active-below w t a = live-below base w t (λ e. omega (arith, ap statusWord (sym
 -- ---- The list
 
 -- The list but for its first byte, where t stands.
-abbrev pub restOf : List ℕ → ℕ → List ℕ
+abbrev restOf : List ℕ → ℕ → List ℕ
 restOf list t = take (length (set list 0 t) - 1) (drop 1 (set list 0 t))
 
 pub rest-length : (list : List ℕ) (t : ℕ) → length (restOf list t) ≡ length list - 1
@@ -60,7 +60,7 @@ not-member w sets finished h t a u =
 
 module _ (w sets : List ℕ) (finished : ℕ) (h : Tracked w sets finished) (t : ℕ) (a : Active (decode base w) t)
     (after left : List ℕ) (forgot : Forgotten t sets left) where
-  -- What `settle` asks, of a list of n bytes.
+  -- What `commit_ready` asks, of a list of n bytes.
   abbrev Settleable : ℕ → Type 0
   Settleable n = Tracked after left finished × (pseudoCommittedCount (decode base after) ≤ n)
 

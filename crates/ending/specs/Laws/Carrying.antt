@@ -3,7 +3,7 @@ use Prim.Native.Nat.{ℕ, _+_, _<_, _≤_}
 use mathlib.Core.Path.{_≡_, refl, sym, ap, _∙_, subst}
 use mathlib.Core.Bool.{Bool, true, false, cond}
 use mathlib.Core.Option.{some}
-use mathlib.Core.List.{List, [], _∷_}
+use mathlib.Core.List.{List, _∷_}
 use native.Mathlib.Omega.{arith}
 use borrow.Author.Tests.{eq-eqb, ne-eqb}
 use lib.Dec.{eqb}
@@ -11,29 +11,26 @@ use lib.ListN.{length, drop}
 use Rattle.operations.specs.Operations as model
 use Rattle.operations.specs.Stored.{operationOf}
 use Rattle.operations.specs.declared.Operation.{Operation}
-use Rattle.replay.specs.Replay.{nextOf}
+use Rattle.replay.specs.Replay.{nextNamed}
 use Rattle.store.specs.Store.{Object, Logged, Store}
 use Rattle.store.specs.Layout.{Packed, base, decode, encode, word, entryStart, operationAt, entryAt, rowsAt}
 use Rattle.store.specs.Soundness.{EntriesFit, Room}
 use Rattle.store.specs.Steps.{folded}
 use Rattle.store.specs.Theorems.{representable}
-use Rattle.store.specs.Laws.Lists.{length-tabulate, drop-tabulate, drop-past}
+use Rattle.store.specs.Laws.Lists.{length-tabulate}
+use Rattle.store.specs.Laws.Entries.{logFrom, log-here, log-end}
 use Rattle.store.specs.Laws.Reading.{object-read, kind-below, entry-named}
 use Rattle.protocol.specs.Ending.{carriedOut, ended, commit}
 use Rattle.protocol.specs.Laws.Carrying.{Carriable, carriable, next-fits, passed, taken, carried-representable}
 use Rattle.ending.specs.Laws.Books.{Encodes, held, is-packed, is-decoded, changed}
-
--- The entries from i on.
-abbrev pub entriesFrom : List ℕ → ℕ → List Logged
-entriesFrom w i = drop i (decode base w .log)
 
 -- The book once the transaction's entries before i are carried into its rows: what is left to carry leads to what all
 -- of them do.
 pub record Carrying (start : List ℕ) (t i : ℕ) (w : List ℕ) : Type 0 where
   pub packed : Packed base w
   pub count : word w 0 ≡ word start 0
-  pub carriable : Carriable (entriesFrom w i) (decode base w)
-  pub leads : carriedOut t (entriesFrom w i) (decode base w) ≡ carriedOut t (decode base start .log) (decode base start)
+  pub carriable : Carriable (logFrom w i) (decode base w)
+  pub leads : carriedOut t (logFrom w i) (decode base w) ≡ carriedOut t (decode base start .log) (decode base start)
 
 pub carrying-begun : (w : List ℕ) (t : ℕ) → Packed base w → EntriesFit (decode base w) → Room base (decode base w)
     → Carrying w t 0 w
@@ -48,8 +45,7 @@ carrying-begun w t p fits room =
 pub carrying-ended : (start : List ℕ) (t i : ℕ) (w : List ℕ) → Carrying start t i w → word start 0 ≤ i
     → w ≡ encode base (carriedOut t (decode base start .log) (decode base start))
 carrying-ended start t i w c l =
-    let nothing-left : entriesFrom w i ≡ [] =
-    drop-past (word w 0) (entryAt w) i (omega (arith, c .count, l)) in
+    let nothing-left = log-end w i (omega (arith, c .count, l)) in
     held w (c .packed) .words
     ∙ ap (encode base) (ap (λ (log : List Logged). carriedOut t log (decode base w)) (sym nothing-left) ∙ c .leads)
 
@@ -57,10 +53,10 @@ module _ (start : List ℕ) (t i : ℕ) (w : List ℕ) (c : Carrying start t i w
   below : i < word w 0
   below = omega (arith, c .count, l)
 
-  next-entry : entriesFrom w i ≡ entryAt w i ∷ entriesFrom w (i + 1)
-  next-entry = drop-tabulate (word w 0) (entryAt w) i below
+  next-entry : logFrom w i ≡ entryAt w i ∷ logFrom w (i + 1)
+  next-entry = log-here w i below
 
-  left : Carriable (entryAt w i ∷ entriesFrom w (i + 1)) (decode base w)
+  left : Carriable (entryAt w i ∷ logFrom w (i + 1)) (decode base w)
   left = subst (λ (log : List Logged). Carriable log (decode base w)) next-entry (c .carriable)
 
   abbrev number : ℕ
@@ -71,10 +67,10 @@ module _ (start : List ℕ) (t i : ℕ) (w : List ℕ) (c : Carrying start t i w
   with-entry = folded (entryAt w i .object) (operationAt w i) (decode base w)
 
   after-entry : (own : Bool) → eqb number t ≡ own
-      → carriedOut t (entriesFrom w (i + 1)) (cond own with-entry (decode base w))
+      → carriedOut t (logFrom w (i + 1)) (cond own with-entry (decode base w))
       ≡ carriedOut t (decode base start .log) (decode base start)
   after-entry own e =
-      ap (λ (b : Bool). carriedOut t (entriesFrom w (i + 1)) (cond b with-entry (decode base w))) (sym e)
+      ap (λ (b : Bool). carriedOut t (logFrom w (i + 1)) (cond b with-entry (decode base w))) (sym e)
       ∙ ap (λ (log : List Logged). carriedOut t log (decode base w)) (sym next-entry)
       ∙ c .leads
 
@@ -84,7 +80,7 @@ module _ (start : List ℕ) (t i : ℕ) (w : List ℕ) (c : Carrying start t i w
       record {
         packed = c .packed;
         count = c .count;
-        carriable = passed (entryAt w i) (entriesFrom w (i + 1)) (decode base w) left;
+        carriable = passed (entryAt w i) (logFrom w (i + 1)) (decode base w) left;
         leads = after-entry false (ne-eqb number t other);
       }
 
@@ -95,7 +91,7 @@ module _ (start : List ℕ) (t i : ℕ) (w : List ℕ) (c : Carrying start t i w
     pub named : operationOf operation ≡ some (operationAt w i)
     named = entry-named base w i operation (c .packed) below read
 
-    pub foldable : (object < 16) × (length (nextOf operation (rowsAt w object)) ≤ 64)
+    pub foldable : (object < 16) × (length (nextNamed operation (rowsAt w object)) ≤ 64)
     foldable = (within, room)
       where
         within : object < 16
@@ -103,9 +99,9 @@ module _ (start : List ℕ) (t i : ℕ) (w : List ℕ) (c : Carrying start t i w
             subst (λ (o : ℕ). o < 16) (sym e)
             (kind-below base w (entryAt w i .object) (model.kindOf (operationAt w i)) (left .fits .0))
 
-        room : length (nextOf operation (rowsAt w object)) ≤ 64
+        room : length (nextNamed operation (rowsAt w object)) ≤ 64
         room =
-            let fits = next-fits (entryAt w i) (entriesFrom w (i + 1)) (decode base w) left in
+            let fits = next-fits (entryAt w i) (logFrom w (i + 1)) (decode base w) left in
             rw (named, sym (ap (λ (x : Object). x .rows) (object-read base w object within)), e) fits
 
     -- and its own is folded into its object's rows.
@@ -114,7 +110,7 @@ module _ (start : List ℕ) (t i : ℕ) (w : List ℕ) (c : Carrying start t i w
         → after ≡ encode base (folded object o (decode base w)))
         → Carrying start t (i + 1) after
     carrying-own own after folds =
-        let rest = entriesFrom w (i + 1) in
+        let rest = logFrom w (i + 1) in
         let s = with-entry in
         let written : after ≡ encode base s =
         folds (operationAt w i) named ∙ ap (λ (o : ℕ). encode base (folded o (operationAt w i) (decode base w))) e in

@@ -6,7 +6,7 @@ use mathlib.Core.Option.{some}
 use mathlib.Core.List.{List, [], _∷_, _++_, append-nil}
 use borrow.Author.Tests.{eq-eqb, ne-eqb}
 use lib.ListN.{getD}
-use Rattle.operations.specs.Operations.{Kind, All, kindOf, reduceKey}
+use Rattle.operations.specs.Operations.{Kind, All, kindOf, reduceKey, answer, next}
 use Rattle.operations.specs.Log.{filter, only, one, others, Answered}
 use Rattle.operations.specs.Theorems.{committing}
 use Rattle.operations.specs.Laws.Cases.{same, all-map, all-append, all-filter}
@@ -22,7 +22,8 @@ use Rattle.protocol.specs.Ending.{ended, commit, Settlement, settledAll}
 use Rattle.protocol.specs.Terms.{Among}
 use Rattle.protocol.specs.Laws.Ending.{Left, ended-left, commit-left, ended-objects, commit-rows, entries-fit}
 use Rattle.protocol.specs.Laws.Settling.{all-settle}
-use Rattle.history.specs.History.{History, serial, emptyObjects, reached, committedContents, answers, given, Unaltered, struck, committedNext, committedInOrder}
+use Rattle.history.specs.History.{History, serial, emptyObjects, reached, committedContents, answers, given}
+use Rattle.history.specs.History.{Unaltered, struck, committedNext, committedInOrder}
 use Rattle.history.specs.Laws.Serving.{reached-rows, reached-append, answers-both, serial-append, answers-given}
 
 -- The kind that the object was set up with.
@@ -33,7 +34,8 @@ HasKind kinds o kind = readKind (word kinds o) ≡ some kind
 abbrev pub FitsKind : List ℕ → Logged → Type 0
 FitsKind kinds l = HasKind kinds (l .object) (kindOf (l .entry .operation))
 
--- The answered operations of live transactions are the log; the committed ones, served alone, get their answers and reach the rows.
+-- The answered operations of live transactions are the log; the committed ones, served alone, get their answers and
+-- reach the rows.
 pub record Linked (kinds : List ℕ) (h : History) (s : Store) : Type 0 where
   pub kind : (o : ℕ) → objectOf s o .kind ≡ readKind (word kinds o)
   pub live : (t : ℕ) → Among t (h .live) ↔ Live s t
@@ -82,12 +84,14 @@ module _ (kinds : List ℕ) (h : History) (s : Store) (linked : Linked kinds h s
         log = log-left t (ended t s) left;
         fits = linked .fits;
         answered = linked .answered;
-        rows = λ o kind k. ap (λ (xs : List Object). getD xs o noObject .rows) (ended-objects s t) ∙ linked .rows o kind k;
+        rows = λ o kind k. ap (λ (xs : List Object). getD xs o noObject .rows) (ended-objects s t)
+            ∙ linked .rows o kind k;
       }
 
   -- The answered operations of live transactions are of their objects' kinds too.
   pub answered-fits : EntriesFit s → All (FitsKind kinds) (h .answered)
-  answered-fits f = rw (linked .log) (all-map {Q = FitsKind kinds} (λ (l : Logged) e. sym (linked .kind (l .object)) ∙ e) (s .log) f)
+  answered-fits f =
+      rw (linked .log) (all-map {Q = FitsKind kinds} (λ (l : Logged) e. sym (linked .kind (l .object)) ∙ e) (s .log) f)
 
   -- The committed operations, and those of one more that commits.
   abbrev before : List Logged
@@ -99,7 +103,8 @@ module _ (kinds : List ℕ) (h : History) (s : Store) (linked : Linked kinds h s
 
     serial-next : serial (committedNext t h .committed) ≡ before ++ own
     serial-next =
-        serial-append (h .committed) (record { transaction = t; operations = own } ∷ []) ∙ ap (λ (l : List Logged). before ++ l) (append-nil own)
+        serial-append (h .committed) (record { transaction = t; operations = own } ∷ [])
+        ∙ ap (λ (l : List Logged). before ++ l) (append-nil own)
 
     own-fits : EntriesFit s → All (FitsKind kinds) own
     own-fits f = all-filter {Q = FitsKind kinds} (λ l fits k. fits) (h .answered) (answered-fits f)
@@ -109,16 +114,20 @@ module _ (kinds : List ℕ) (h : History) (s : Store) (linked : Linked kinds h s
 
     -- It depends on nobody, so that its operations get their answers right after the committed ones.
     own-answered : Unsettled base s → Ready (s .log) t → answers own (committedContents h) ≡ given own
-    own-answered u ready = answers-given reduceKey (HasKind kinds) own (committedContents h) (own-fits (u .fits)) on-each
+    own-answered u ready =
+        answers-given reduceKey (HasKind kinds) own (committedContents h) (own-fits (u .fits)) on-each
       where
-        on-each : (o : ℕ) (kind : Kind) → HasKind kinds o kind → Answered (object reduceKey kind) (onObject o own) (committedContents h o)
+        on-each : (o : ℕ) (kind : Kind) → HasKind kinds o kind
+            → Answered next answer (onObject o own) (committedContents h o)
         on-each o kind k =
             let e : objectOf s o .kind ≡ some kind = linked .kind o ∙ k in
             rw (own-on o, sym (linked .rows o kind k))
-            (committing reduceKey kind (onObject o (s .log)) (objectOf s o .rows) (u .rows o kind e) (entries-fit s o kind e (s .log) (u .fits) (u .reduced))
+            (committing reduceKey kind (onObject o (s .log)) (objectOf s o .rows) (u .rows o kind e)
+            (entries-fit s o kind e (s .log) (u .fits) (u .reduced))
             (one t) (depends-on-nobody reduceKey kind t (s .log) .0 ready o) (u .answered o kind e) .1)
 
-    own-reached : (o : ℕ) (kind : Kind) → HasKind kinds o kind → objectOf (commit t s) o .rows ≡ reached (before ++ own) emptyObjects o
+    own-reached : (o : ℕ) (kind : Kind) → HasKind kinds o kind
+        → objectOf (commit t s) o .rows ≡ reached (before ++ own) emptyObjects o
     own-reached o kind k =
         rw (
           commit-rows s t kind o (kind-within s o kind (linked .kind o ∙ k)),
@@ -136,7 +145,8 @@ module _ (kinds : List ℕ) (h : History) (s : Store) (linked : Linked kinds h s
         live = live-left t (commit t s) left;
         log = log-left t (commit t s) left;
         fits = rw (serial-next t) (all-append (FitsKind kinds) before (own t) (linked .fits) (own-fits t (u .fits)));
-        answered = rw (serial-next t) (answers-both before (own t) emptyObjects (linked .answered) (own-answered t u ready));
+        answered = rw (serial-next t)
+            (answers-both before (own t) emptyObjects (linked .answered) (own-answered t u ready));
         rows = λ o kind k. rw (serial-next t) (own-reached t o kind k);
       }
 
@@ -144,5 +154,7 @@ module _ (kinds : List ℕ) (h : History) (s : Store) (linked : Linked kinds h s
   pub linked-settled : Representable base s → Unsettled base s
       → Linked kinds (committedInOrder (settledAll s .committed) h) (settledAll s .store)
   linked-settled r u =
-      all-settle (λ (x : Store) (y : Settlement). (g : History) → Linked kinds g x → Linked kinds (committedInOrder (y .committed) g) (y .store))
-      (λ x p v e g l. l) (λ x t v w y later g l. later (committedNext t g) (linked-committed kinds g x l t v (w .ready))) s r u h linked
+      all-settle (λ (x : Store) (y : Settlement). (g : History) → Linked kinds g x
+      → Linked kinds (committedInOrder (y .committed) g) (y .store))
+      (λ x p v e g l. l)
+      (λ x t v w y later g l. later (committedNext t g) (linked-committed kinds g x l t v (w .ready))) s r u h linked

@@ -11,7 +11,8 @@ use Rattle.layout.proofs.clear.Statement.{statement}
 use Rattle.layout.proofs.clear.Tie as tie
 
 abbrev Inv-loop : tie.InvT-loop
-Inv-loop part₀ i₀ i-end part i = (i ≤ length part₀) × (length part ≡ length part₀) × (part ≡ replicate i 0 ++ drop i part₀)
+Inv-loop part₀ i₀ i-end part i =
+    (i ≤ length part₀) × (length part ≡ length part₀) × (part ≡ replicate i 0 ++ drop i part₀)
 
 abbrev μ-loop : tie.MeasureT-loop
 μ-loop part₀ i₀ i-end part i = length part₀ - i
@@ -22,8 +23,11 @@ loop-holds c = (search needs, refl, fill-none _ 0)
 loop-again : tie.Need-loop-again Inv-loop μ-loop
 loop-again c =
     let at-loop = c .before .loop in
-    let d = c .before .before .args .part .now in
-    (search needs, length-set (at-loop .part) (at-loop .i) 0 ∙ at-loop .inv .1, ap (λ (l : List ℕ). set l (at-loop .i) 0) (at-loop .inv .2) ∙ fill-more (at-loop .i) 0 d (c .loop-test .taken))
+    let d = c .before .before .args .part .now in (
+      search needs,
+      length-set (at-loop .part) (at-loop .i) 0 ∙ at-loop .inv .1,
+      ap (λ (l : List ℕ). set l (at-loop .i) 0) (at-loop .inv .2) ∙ fill-more (at-loop .i) 0 d (c .loop-test .taken),
+    )
 
 same-length : tie.Need-same-length Inv-loop μ-loop
 same-length c = c .before .loop .inv .1

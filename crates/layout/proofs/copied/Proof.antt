@@ -25,11 +25,15 @@ loop-again c =
     let len = at-loop .loop .inv .1 in (
       search needs,
       length-set (at-loop .loop .rows) (at-loop .loop .i) _ ∙ len,
-      copied-next (args .words .now) (at-loop .loop .i) (at-loop .loop .rows) _ (omega (arith, len, c .before .before .loop-test .taken, at-loop .before .pre .0)) refl (at-loop .loop .inv .2),
+      copied-next (args .words .now) (at-loop .loop .i) (at-loop .loop .rows) _
+          (omega (arith, len, c .before .before .loop-test .taken, at-loop .before .pre .0))
+          refl (at-loop .loop .inv .2),
     )
 
 returns : tie.Need-returns Inv-loop μ-loop
-returns c = copied-all (c .before .before .args .words .now) (c .before .loop .i) _ (c .before .loop .rows) (c .before .loop .inv .2) (omega arith)
+returns c =
+    copied-all (c .before .before .args .words .now) (c .before .loop .i) _ (c .before .loop .rows)
+    (c .before .loop .inv .2) (omega arith)
 
 pub copied-spec : {M : Type 1} → statement M
 copied-spec =

@@ -8,7 +8,8 @@ use Rattle.lending_desk.proofs.serve.Tie as tie
 
 abbrev Inv-loop : tie.InvT-loop
 Inv-loop book₀ line₀ input₀ out₀ kept₀ turns₀ book line input out kept turns =
-    (kept ≤ 178) × (length book ≡ length book₀) × (length line ≡ length line₀) × (length input ≡ length input₀) × (length out ≡ length out₀)
+    (kept ≤ 178) × (length book ≡ length book₀) × (length line ≡ length line₀) × (length input ≡ length input₀)
+    × (length out ≡ length out₀)
 
 abbrev μ-loop : tie.MeasureT-loop
 μ-loop book₀ line₀ input₀ out₀ kept₀ turns₀ book line input out kept turns = turns

@@ -6,8 +6,9 @@ use mathlib.Core.Logic.{⊎-elim}
 use borrow.Author.Needs.{needs}
 use borrow.Author.Tests.{eqb-true, eqb-false}
 use lib.ListN.{length}
-use Rattle.text.specs.Fields.{numberOf}
-use Rattle.lines.specs.Laws.Reading.{Reading, reading-starts, reading-goes-on, reading-ends, no-space, too-many-read, no-number}
+use Rattle.text.specs.Fields.{numberSaid}
+use Rattle.lines.specs.Laws.Reading.{Reading, reading-starts, reading-goes-on, reading-ends, no-space}
+use Rattle.lines.specs.Laws.Reading.{too-many-read, no-number}
 use Rattle.lines.proofs.read_arguments.Statement.{statement}
 use Rattle.lines.proofs.read_arguments.Tie as tie
 
@@ -27,7 +28,8 @@ returns c =
     let line = inside .before .before .before .args .line .now in
     let more = inside .loop-test .taken in (
       ⊎-elim (λ w. no-space line (loop .values) (loop .count) (loop .at) (loop .inv) more (w .taken))
-          (λ w. too-many-read line (loop .values) (loop .count) (loop .at) (loop .inv) more (w .0 .left) (eqb-true _ _ (w .1 .taken)))
+          (λ w. too-many-read line (loop .values) (loop .count) (loop .at) (loop .inv) more (w .0 .left)
+          (eqb-true _ _ (w .1 .taken)))
           (c .if1 .came),
       search needs,
     )
@@ -46,7 +48,8 @@ returns-2 c =
     let loop = inside .before .loop in
     let line = inside .before .before .before .args .line .now in (
       no-number line (loop .values) (loop .count) (loop .at) (loop .inv) (inside .loop-test .taken) (spaced .if1 .left)
-          (searched .find .result) (searched .find .ensures .0) (ap numberOf (sym (c .enum-told .given .1)) ∙ read .read-number .ensures),
+          (searched .find .result) (searched .find .ensures .0)
+          (ap numberSaid (sym (c .enum-told .given .1)) ∙ read .read-number .ensures),
       search needs,
     )
 
@@ -58,9 +61,10 @@ loop-again c =
     let inside = spaced .before .before in
     let loop = inside .before .loop in
     let line = inside .before .before .before .args .line .now in
-    reading-goes-on line (loop .values) (loop .count) (loop .at) (loop .inv) (inside .loop-test .taken) (spaced .if1 .left)
+    reading-goes-on line (loop .values) (loop .count) (loop .at) (loop .inv) (inside .loop-test .taken)
+    (spaced .if1 .left)
     (searched .find .result) (searched .find .ensures .0)
-    (c .before .field .given .0 .0) (ap numberOf (sym (c .before .field .given .1)) ∙ read .read-number .ensures)
+    (c .before .field .given .0 .0) (ap numberSaid (sym (c .before .field .given .1)) ∙ read .read-number .ensures)
     (room (searched .before)) (searched .find .ensures .1)
 
 returns-3 : tie.Need-returns-3 Inv-loop μ-loop

@@ -4,7 +4,7 @@ use borrow.Author.Needs.{needs}
 use borrow.Author.Tests.{not-true, not-false}
 use lib.ListN.{getD, take}
 use Rattle.lines.specs.Lines.{asked, callIn}
-use Rattle.lines.specs.Requests.{requested}
+use Rattle.lines.specs.Coded.{callOf}
 use Rattle.lines.specs.Laws.Calls.{set-up-asked}
 use Rattle.lines.specs.Laws.Fields.{no-letter, arguments-wrong, arguments-right}
 use Rattle.lines.proofs.read_line.Statement.{statement}
@@ -12,15 +12,16 @@ use Rattle.lines.proofs.read_line.Tie as tie
 
 returns : tie.Need-returns
 returns c =
-    ap (λ q. requested q (c .unread .result .kinds)) (c .unread .ensures)
+    ap (λ q. callOf q (c .unread .result .kinds)) (c .unread .ensures)
     ∙ no-letter (c .before .before .before .args .line .now) (c .before .if1 .taken)
 
 returns-2 : tie.Need-returns-2
 returns-2 c =
     let given = c .before .before .before in
     let some-letter = given .before .before in
-    ap (λ q. requested q (c .unread2 .result .kinds)) (c .unread2 .ensures)
-    ∙ arguments-wrong (some-letter .before .before .args .line .now) (given .read-arguments .result) (given .read-arguments .ensures .0)
+    ap (λ q. callOf q (c .unread2 .result .kinds)) (c .unread2 .ensures)
+    ∙ arguments-wrong (some-letter .before .before .args .line .now) (given .read-arguments .result)
+    (given .read-arguments .ensures .0)
     (some-letter .if1 .left) (not-true _ (c .before .if2 .taken))
 
 read : (c : tie.Else2) → let given = c .before .before in
@@ -30,16 +31,18 @@ read : (c : tie.Else2) → let given = c .before .before in
 read c =
     let given = c .before .before in
     let some-letter = given .before .before in
-    arguments-right (some-letter .before .before .args .line .now) (given .read-arguments .result) (given .read-arguments .ensures .0)
+    arguments-right (some-letter .before .before .args .line .now) (given .read-arguments .result)
+    (given .read-arguments .ensures .0)
     (some-letter .if1 .left) (not-false _ (c .if2 .left))
 
 returns-3 : tie.Need-returns-3
 returns-3 c =
     let given = c .before .before .before .before .before .read-arguments .result in
-    c .set-up .ensures ∙ set-up-asked _ (take (given .count) (given .values)) (c .before .if3 .taken) ∙ read (c .before .before .before)
+    c .set-up .ensures ∙ set-up-asked _ (take (given .count) (given .values)) (c .before .if3 .taken)
+    ∙ read (c .before .before .before)
 
 returns-4 : tie.Need-returns-4
-returns-4 c = c .request-of .ensures _ ∙ read (c .before .before .before)
+returns-4 c = c .call-of .ensures _ ∙ read (c .before .before .before)
 
 pub read-line-spec : {M : Type 1} → statement M
 read-line-spec =

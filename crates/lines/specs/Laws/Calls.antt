@@ -28,15 +28,16 @@ module _ (kinds : List ℕ) (few : length kinds ≤ 16) where
   set-up-refused e = rw (le-leb (length kinds) 16 few, e)
 
 -- How far kinds were written, over a list of zeros.
-pub record Written (count : ℕ) (values kinds : List ℕ) (i : ℕ) : Type 0 where
+pub record KindsRead (count : ℕ) (values kinds : List ℕ) (i : ℕ) : Type 0 where
   pub within : i ≤ count
   pub front : kinds ≡ take i values ++ zeros (16 - i)
   pub left : someAbove 255 (drop i (take count values)) ≡ someAbove 255 (take count values)
 
-pub writing-starts : (count : ℕ) (values : List ℕ) → Written count values (zeros 16) 0
+pub writing-starts : (count : ℕ) (values : List ℕ) → KindsRead count values (zeros 16) 0
 writing-starts count values = record { within = omega arith; front = refl; left = refl }
 
-module _ (count : ℕ) (values kinds : List ℕ) (i : ℕ) (few : count ≤ 16) (long : length values ≡ 16) (w : Written count values kinds i) where
+module _ (count : ℕ) (values kinds : List ℕ) (i : ℕ) (few : count ≤ 16) (long : length values ≡ 16)
+    (w : KindsRead count values kinds i) where
   taken-length : length (take count values) ≡ count
   taken-length = length-take-le count values (omega arith)
 
@@ -52,19 +53,21 @@ module _ (count : ℕ) (values kinds : List ℕ) (i : ℕ) (few : count ≤ 16) 
     at-kind : drop i (take count values) ≡ getD values i 0 ∷ drop (i + 1) (take count values)
     at-kind =
         let inside : i < length (take count values) = omega (arith, taken-length) in
-        rw add-one (drop-cons (take count values) i 0 inside ∙ ap (λ k. k ∷ drop (suc i) (take count values)) (getD-take count values i 0 more))
+        rw add-one (drop-cons (take count values) i 0 inside
+        ∙ ap (λ k. k ∷ drop (suc i) (take count values)) (getD-take count values i 0 more))
 
     pub kind-too-high : 255 < getD values i 0 → none ≡ setUpOf (take count values)
     kind-too-high l =
         sym (set-up-refused (take count values) (omega (arith, taken-length))
         (sym (w .left) ∙ ap (someAbove 255) at-kind ∙ rw (lt-ltb 255 (getD values i 0) l)))
 
-    pub writing-goes-on : getD values i 0 ≤ 255 → Written count values (set kinds i (getD values i 0)) (i + 1)
+    pub writing-goes-on : getD values i 0 ≤ 255 → KindsRead count values (set kinds i (getD values i 0)) (i + 1)
     writing-goes-on l =
         let value = getD values i 0 in
         let n = 16 - (i + 1) in
         let e : 16 - i ≡ suc n = omega arith in
-        let next : take (i + 1) values ≡ take i values ++ (value ∷ []) = rw add-one (take-suc values i 0 (omega arith)) in
+        let next : take (i + 1) values ≡ take i values ++ (value ∷ []) =
+        rw add-one (take-suc values i 0 (omega arith)) in
         record {
           within = omega arith;
           front =
@@ -90,7 +93,8 @@ too-many letter numbers e =
 pub set-up-asked : (letter : ℕ) (numbers : List ℕ) → letter ≡ 83 → setUpOf numbers ≡ asked letter numbers
 set-up-asked letter numbers e = rw e
 
-taking-right : (n : ℕ) (arguments : List ℕ) (call : Call) → length arguments ≡ n → withCount n arguments call ≡ some call
+taking-right : (n : ℕ) (arguments : List ℕ) (call : Call) → length arguments ≡ n
+    → withCount n arguments call ≡ some call
 taking-right n arguments call e = rw (eq-eqb (length arguments) n e)
 
 module _ (values : List ℕ) (long : length values ≡ 16) where
@@ -98,14 +102,22 @@ module _ (values : List ℕ) (long : length values ≡ 16) where
   front-length n l = length-take-le n values (omega arith)
 
   pub operate-asked : (letter count : ℕ) → letter ≡ 73 → count ≡ 5
-      → some (operate (getD values 0 0) (getD values 1 0) (getD values 2 0) (getD values 3 0) (getD values 4 0)) ≡ asked letter (take count values)
+      → some (operate (getD values 0 0) (getD values 1 0) (getD values 2 0) (getD values 3 0) (getD values 4 0))
+      ≡ asked letter (take count values)
   operate-asked letter count e f =
       let at : (i : ℕ) → i < 5 → getD (take 5 values) i 0 ≡ getD values i 0 = λ i l. getD-take 5 values i 0 l in
-      rw (e, f) (simp (at 0 (omega arith), at 1 (omega arith), at 2 (omega arith), at 3 (omega arith), at 4 (omega arith))
+      rw (e, f) (simp (
+        at 0 (omega arith),
+        at 1 (omega arith),
+        at 2 (omega arith),
+        at 3 (omega arith),
+        at 4 (omega arith),
+      )
       (sym (taking-right 5 (take 5 values) _ (front-length 5 (omega arith)))))
 
   module _ (letter count : ℕ) (one : count ≡ 1) where
-    one-taken : (call : ℕ → Call) → some (call (getD values 0 0)) ≡ withCount 1 (take 1 values) (call (getD (take 1 values) 0 0))
+    one-taken : (call : ℕ → Call)
+        → some (call (getD values 0 0)) ≡ withCount 1 (take 1 values) (call (getD (take 1 values) 0 0))
     one-taken call =
         ap (λ t. some (call t)) (sym (getD-take 1 values 0 0 (omega arith)))
         ∙ sym (taking-right 1 (take 1 values) (call (getD (take 1 values) 0 0)) (front-length 1 (omega arith)))
@@ -126,9 +138,22 @@ module _ (values : List ℕ) (long : length values ≡ 16) where
     pub count-wrong : ((letter ≡ 73) × (count ≡ 5) → ⊥) → (count ≡ 1 → ⊥) → none ≡ asked letter (take count values)
     count-wrong five one =
         same letter 73
-        (λ (e : letter ≡ 73). simp (ne-eqb letter 83 other, other-length 1 one, other-length 5 (λ f. five (e, f)), same-both))
+        (λ (e : letter ≡ 73). simp (
+          ne-eqb letter 83 other,
+          other-length 1 one,
+          other-length 5 (λ f. five (e, f)),
+          same-both,
+        ))
         (λ (e : letter ≡ 73 → ⊥). simp (ne-eqb letter 83 other, other-length 1 one, ne-eqb letter 73 e, same-both))
 
-    pub letter-wrong : count ≡ 1 → (letter ≡ 66 → ⊥) → (letter ≡ 70 → ⊥) → (letter ≡ 67 → ⊥) → none ≡ asked letter (take count values)
+    pub letter-wrong : count ≡ 1 → (letter ≡ 66 → ⊥) → (letter ≡ 70 → ⊥) → (letter ≡ 67 → ⊥)
+        → none ≡ asked letter (take count values)
     letter-wrong one b f k =
-        simp (ne-eqb letter 83 other, ne-eqb letter 66 b, ne-eqb letter 70 f, ne-eqb letter 67 k, other-length 5 (λ e. omega arith), same-both)
+        simp (
+          ne-eqb letter 83 other,
+          ne-eqb letter 66 b,
+          ne-eqb letter 70 f,
+          ne-eqb letter 67 k,
+          other-length 5 (λ e. omega arith),
+          same-both,
+        )

@@ -11,8 +11,8 @@ use lib.Dec.{eqb, leb}
 use lib.ListN.{length, getD, take, drop}
 use Rattle.operations.specs.Laws.Cases.{split as by-test}
 use Rattle.text.specs.Text.{longer, split}
-use Rattle.lines.specs.Lines.{asked, askedWith, callOf, callIn}
-use Rattle.lines.specs.Requests.{argumentsOf, few, behind}
+use Rattle.lines.specs.Lines.{asked, askedWith, callOfFields, callIn}
+use Rattle.lines.specs.Coded.{argumentsOf, few, behind}
 use Rattle.lines.specs.declared.Arguments.{Arguments}
 use Rattle.lines.specs.Laws.Calls.{too-many}
 
@@ -25,17 +25,19 @@ kept numbers l = rw (le-leb (length numbers) 16 l)
 few-asked : (letter : ℕ) (numbers : Option (List ℕ)) → askedWith letter (few numbers) ≡ askedWith letter numbers
 few-asked letter none = refl
 few-asked letter (some numbers) =
-    by-test (leb (length numbers) 16) (λ (e : leb (length numbers) 16 ≡ true). ap (askedWith letter) (kept numbers (leb-true _ _ e)))
+    by-test (leb (length numbers) 16)
+    (λ (e : leb (length numbers) 16 ≡ true). ap (askedWith letter) (kept numbers (leb-true _ _ e)))
     (λ (e : leb (length numbers) 16 ≡ false).
     let f : few (some numbers) ≡ none = rw e in
     ap (askedWith letter) f ∙ sym (too-many letter numbers e))
 
 -- A longer word is no letter.
-glued : (letter b : ℕ) (pieces : List (List ℕ)) → callOf (longer letter (longer b pieces)) ≡ none
+glued : (letter b : ℕ) (pieces : List (List ℕ)) → callOfFields (longer letter (longer b pieces)) ≡ none
 glued letter b [] = refl
 glued letter b (piece ∷ pieces) = refl
 
-behind-letter : (letter : ℕ) (rest : List ℕ) → callOf (longer letter (split space rest)) ≡ askedWith letter (behind rest)
+behind-letter : (letter : ℕ) (rest : List ℕ)
+    → callOfFields (longer letter (split space rest)) ≡ askedWith letter (behind rest)
 behind-letter letter [] = refl
 behind-letter letter (b ∷ text) =
     by-test (eqb b space) (λ (e : eqb b space ≡ true). rw e refl)
@@ -46,7 +48,8 @@ no-call none = refl
 no-call (some numbers) = refl
 
 letter-first : (first : Bool) (letter : ℕ) → eqb letter space ≡ first → (rest : List ℕ)
-    → callOf (cond first ([] ∷ split space rest) (longer letter (split space rest))) ≡ askedWith letter (behind rest)
+    → callOfFields (cond first ([] ∷ split space rest) (longer letter (split space rest)))
+    ≡ askedWith letter (behind rest)
 letter-first true letter e rest = rw (eqb-true letter space e) (no-call (behind rest))
 letter-first false letter e rest = behind-letter letter rest
 
@@ -55,16 +58,19 @@ unfolding callIn
 no-letter [] e = refl
 no-letter (letter ∷ rest) e = absurd (omega arith)
 
-pub line-read : (letter : ℕ) (rest : List ℕ) → callIn (letter ∷ rest) ≡ askedWith letter (few (behind rest))
+line-read : (letter : ℕ) (rest : List ℕ) → callIn (letter ∷ rest) ≡ askedWith letter (few (behind rest))
 unfolding callIn
 line-read letter rest = letter-first (eqb letter space) letter refl rest ∙ sym (few-asked letter (behind rest))
 
-asked-by : (line : List ℕ) → (length line ≡ 0 → ⊥) → callIn line ≡ askedWith (getD line 0 0) (few (behind (drop 1 line)))
+asked-by : (line : List ℕ) → (length line ≡ 0 → ⊥)
+    → callIn line ≡ askedWith (getD line 0 0) (few (behind (drop 1 line)))
 asked-by [] some-letter = absurd (some-letter refl)
 asked-by (letter ∷ rest) some-letter = line-read letter rest
 
-module _ (line : List ℕ) (given : Arguments) (found : argumentsOf given ≡ few (behind (drop 1 line))) (some-letter : length line ≡ 0 → ⊥) where
-  from-arguments : (numbers : Option (List ℕ)) → argumentsOf given ≡ numbers → askedWith (getD line 0 0) numbers ≡ callIn line
+module _ (line : List ℕ) (given : Arguments) (found : argumentsOf given ≡ few (behind (drop 1 line)))
+    (some-letter : length line ≡ 0 → ⊥) where
+  from-arguments : (numbers : Option (List ℕ)) → argumentsOf given ≡ numbers
+      → askedWith (getD line 0 0) numbers ≡ callIn line
   from-arguments numbers e = ap (askedWith (getD line 0 0)) (sym e ∙ found) ∙ sym (asked-by line some-letter)
 
   pub arguments-wrong : given .read ≡ false → none ≡ callIn line

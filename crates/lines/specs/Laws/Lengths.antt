@@ -11,11 +11,11 @@ use lib.Dec.{eqb, leb, ltb}
 use lib.ListN.{length}
 use Rattle.text.specs.Text.{longer, split, valueAfter, allDigits, isNumber, numberIn}
 use Rattle.text.specs.Laws.Tests.{left, right}
-use Rattle.lines.specs.Lines.{withFirst, numbersIn, askedWith, callOf}
+use Rattle.lines.specs.Lines.{withFirst, numbersIn, askedWith, callOfFields}
 use Rattle.lines.specs.Laws.Calls.{too-many}
 
 -- The bytes of pieces, a separator before each.
-abbrev pub spread : List (List ℕ) → ℕ
+abbrev spread : List (List ℕ) → ℕ
 spread [] = 0
 spread (piece ∷ pieces) = suc (length piece) + spread pieces
 
@@ -42,13 +42,16 @@ number-short field n e =
     (right (leb 1 (length field)) few
     (left (leb 1 (length field) && few) (allDigits field)
     (left (leb 1 (length field) && few && allDigits field) (ltb (valueAfter 0 field) 4_294_967_296) t))))
-    (λ (t : isNumber field ≡ false). absurd (Option·none-ne-some n (sym (ap (λ (b : Bool). cond b (some (valueAfter 0 field)) none) t) ∙ e)))
+    (λ (t : isNumber field ≡ false).
+    absurd (Option·none-ne-some n (sym (ap (λ (b : Bool). cond b (some (valueAfter 0 field)) none) t) ∙ e)))
 
-numbers-spread : (fields : List (List ℕ)) (numbers : List ℕ) → numbersIn fields ≡ some numbers → spread fields ≤ 11 * length numbers
+numbers-spread : (fields : List (List ℕ)) (numbers : List ℕ) → numbersIn fields ≡ some numbers
+    → spread fields ≤ 11 * length numbers
 numbers-spread [] numbers e = omega arith
 numbers-spread (field ∷ fields) numbers e = first (numberIn field) (numbersIn fields) refl (numbers-spread fields) e
   where
-    first : (a : Option ℕ) (r : Option (List ℕ)) → numberIn field ≡ a → ((rest : List ℕ) → r ≡ some rest → spread fields ≤ 11 * length rest)
+    first : (a : Option ℕ) (r : Option (List ℕ)) → numberIn field ≡ a
+        → ((rest : List ℕ) → r ≡ some rest → spread fields ≤ 11 * length rest)
         → withFirst a r ≡ some numbers → suc (length field) + spread fields ≤ 11 * length numbers
     first none r p others e = absurd (Option·none-ne-some numbers e)
     first (some n) none p others e = absurd (Option·none-ne-some numbers e)
@@ -56,7 +59,7 @@ numbers-spread (field ∷ fields) numbers e = first (numberIn field) (numbersIn 
         let all : numbers ≡ n ∷ rest = cc in
         rw all (omega (arith, number-short field n p, others rest refl))
 
-pub long-none : (pieces : List (List ℕ)) → 178 < spread pieces → callOf pieces ≡ none
+pub long-none : (pieces : List (List ℕ)) → 178 < spread pieces → callOfFields pieces ≡ none
 long-none [] long = refl
 long-none ([] ∷ fields) long = refl
 long-none ((letter ∷ b ∷ word) ∷ fields) long = refl
@@ -64,4 +67,5 @@ long-none ((letter ∷ []) ∷ fields) long = with-numbers (numbersIn fields) re
   where
     with-numbers : (r : Option (List ℕ)) → numbersIn fields ≡ r → askedWith letter r ≡ none
     with-numbers none e = refl
-    with-numbers (some numbers) e = too-many letter numbers (lt-leb (length numbers) 16 (omega (arith, numbers-spread fields numbers e)))
+    with-numbers (some numbers) e =
+        too-many letter numbers (lt-leb (length numbers) 16 (omega (arith, numbers-spread fields numbers e)))

@@ -5,7 +5,7 @@ use mathlib.Core.Bool.{Bool, true, false, cond, false≢true}
 use mathlib.Core.Option.{Option, none, some}
 use mathlib.Core.List.{List, [], _∷_}
 use Rattle.protocol.specs.Call.{Call, setUp, begin, operate, finish, cancel, contents}
-use Rattle.lines.specs.Lines.{numbersIn, askedWith, callOf}
+use Rattle.lines.specs.Lines.{numbersIn, askedWith, callOfFields}
 use Rattle.lines.specs.Laws.Calls.{same-both}
 
 abbrev isContents : Option Call → Bool
@@ -26,11 +26,11 @@ asked-other : (letter : ℕ) (numbers : Option (List ℕ)) → isContents (asked
 asked-other letter none = refl
 asked-other letter (some numbers) = simp (either, same-both)
 
-call-other : (fields : List (List ℕ)) → isContents (callOf fields) ≡ false
+call-other : (fields : List (List ℕ)) → isContents (callOfFields fields) ≡ false
 call-other [] = refl
 call-other ([] ∷ fields) = refl
 call-other ((letter ∷ []) ∷ fields) = asked-other letter (numbersIn fields)
 call-other ((letter ∷ b ∷ word) ∷ fields) = refl
 
-pub none-contents : (fields : List (List ℕ)) (o : ℕ) → callOf fields ≡ some (contents o) → ⊥
+pub none-contents : (fields : List (List ℕ)) (o : ℕ) → callOfFields fields ≡ some (contents o) → ⊥
 none-contents fields o e = false≢true (sym (call-other fields) ∙ ap isContents e)

@@ -12,7 +12,7 @@ use Rattle.bytes.specs.Bytes.{indexOf, slice}
 use Rattle.text.specs.Text.{split, numberIn}
 use Rattle.text.specs.Laws.Splitting.{further, Separated, split-first, separated}
 use Rattle.lines.specs.Lines.{withFirst, numbersIn}
-use Rattle.lines.specs.Requests.{few, behind}
+use Rattle.lines.specs.Coded.{few, behind}
 use Rattle.lines.specs.Laws.Fields.{space, kept}
 
 -- Numbers that were read, before those that are left.
@@ -28,11 +28,13 @@ before-none : (numbers : Option (List ℕ)) → before [] numbers ≡ numbers
 before-none none = refl
 before-none (some numbers) = refl
 
-before-more : (numbers : List ℕ) (n : ℕ) (more : Option (List ℕ)) → before numbers (withFirst (some n) more) ≡ before (numbers ++ (n ∷ [])) more
+before-more : (numbers : List ℕ) (n : ℕ) (more : Option (List ℕ))
+    → before numbers (withFirst (some n) more) ≡ before (numbers ++ (n ∷ [])) more
 before-more numbers n none = refl
 before-more numbers n (some more) = ap some (sym (append-snoc numbers n more))
 
-few-before : (numbers : List ℕ) → length numbers ≡ 16 → (n : Option ℕ) (more : Option (List ℕ)) → few (before numbers (withFirst n more)) ≡ none
+few-before : (numbers : List ℕ) → length numbers ≡ 16 → (n : Option ℕ) (more : Option (List ℕ))
+    → few (before numbers (withFirst n more)) ≡ none
 few-before numbers e none more = refl
 few-before numbers e (some n) none = refl
 few-before numbers e (some n) (some more) =
@@ -44,10 +46,13 @@ behind-separated [] e = refl
 behind-separated (b ∷ text) e = rw e
 
 -- The number of a field, and those behind it.
-field-first : (text : List ℕ) → let k = indexOf space text in numbersIn (split space text) ≡ withFirst (numberIn (take k text)) (behind (drop k text))
+field-first : (text : List ℕ)
+    → let k = indexOf space text in
+    numbersIn (split space text) ≡ withFirst (numberIn (take k text)) (behind (drop k text))
 field-first text =
     let k = indexOf space text in
-    ap numbersIn (split-first space text) ∙ ap (withFirst (numberIn (take k text))) (behind-separated (drop k text) (separated space text))
+    ap numbersIn (split-first space text)
+    ∙ ap (withFirst (numberIn (take k text))) (behind-separated (drop k text) (separated space text))
 
 -- How far the numbers of a line were read.
 pub record Reading (line values : List ℕ) (count at : ℕ) : Type 0 where
@@ -61,7 +66,8 @@ reading-starts line l =
     record { room = omega arith; long = refl; within = l; whole = ap few (before-none (behind (drop 1 line))) }
 
 module _ (line values : List ℕ) (count at : ℕ) (r : Reading line values count at) where
-  left : (numbers : Option (List ℕ)) → behind (drop at line) ≡ numbers → few (before (take count values) numbers) ≡ few (behind (drop 1 line))
+  left : (numbers : Option (List ℕ)) → behind (drop at line) ≡ numbers
+      → few (before (take count values) numbers) ≡ few (behind (drop 1 line))
   left numbers e = ap (λ q. few (before (take count values) q)) (sym e) ∙ r .whole
 
   read-length : length (take count values) ≡ count
@@ -89,7 +95,8 @@ module _ (line values : List ℕ) (count at : ℕ) (r : Reading line values coun
       too-many-read e =
           let text = drop (at + 1) line in
           let k = indexOf space text in
-          sym (few-before (take count values) (read-length ∙ e) (numberIn (take k text)) (behind (drop k text))) ∙ left _ behind-space
+          sym (few-before (take count values) (read-length ∙ e) (numberIn (take k text)) (behind (drop k text)))
+          ∙ left _ behind-space
 
       module _ (end : ℕ) (found : end ≡ at + 1 + indexOf space (slice (at + 1) (length line) line)) where
         abbrev field : List ℕ
@@ -103,7 +110,8 @@ module _ (line values : List ℕ) (count at : ℕ) (r : Reading line values coun
             let e : end ≡ at + 1 + k = found ∙ ap (λ t. at + 1 + indexOf space (drop (at + 1) t)) (take-length line) in
             let width : k ≡ end - (at + 1) = omega arith in
             behind-space
-            ∙ ap₂ (λ n q. withFirst (numberIn (take n text)) (behind q)) width (drop-drop k (at + 1) line ∙ ap (λ n. drop n line) (sym e))
+            ∙ ap₂ (λ n q. withFirst (numberIn (take n text)) (behind q)) width
+            (drop-drop k (at + 1) line ∙ ap (λ n. drop n line) (sym e))
 
         pub no-number : none ≡ numberIn field → none ≡ few (behind (drop 1 line))
         no-number e = left none (behind-field ∙ ap (λ n. withFirst n (behind (drop end line))) (sym e))
@@ -118,6 +126,7 @@ module _ (line values : List ℕ) (count at : ℕ) (r : Reading line values coun
               room = omega arith;
               long = length-set values count value ∙ r .long;
               within = within;
-              whole = ap (λ q. few (before q numbers)) last ∙ ap few (sym (before-more (take count values) value numbers))
+              whole =
+                  ap (λ q. few (before q numbers)) last ∙ ap few (sym (before-more (take count values) value numbers))
                   ∙ left _ (behind-field ∙ ap (λ n. withFirst n numbers) (sym e));
             }

@@ -7,7 +7,8 @@ use Rattle.log.proofs.clear.Tie as tie
 returns : tie.Need-returns
 returns c =
     let start = c .before .before .before .before .before in
-    part-cleared (start .args .book .now) (start .args .start) (start .args .end) _ (start .pre .0) (start .pre .1) (c .before .before .clear .ensures)
+    part-cleared (start .args .book .now) (start .args .start) (start .args .end) _ (start .pre .0) (start .pre .1)
+    (c .before .before .clear .ensures)
 
 pub clear-spec : {M : Type 1} → statement M
 clear-spec =

@@ -13,7 +13,8 @@ returns c =
     let object = operation .before .before in
     let transaction = object .before .before in
     let args = transaction .before .before .before .args in
-    words-moved (args .book .now) _ (args .from) (entryStart (args .to)) _ _ _ _ (transaction .entry-transaction .ensures) (object .entry-object .ensures)
+    words-moved (args .book .now) _ (args .from) (entryStart (args .to)) _ _ _ _
+    (transaction .entry-transaction .ensures) (object .entry-object .ensures)
     (operation .entry-operation .ensures) (answer .entry-answer .ensures) (put .put .ensures)
 
 pub move-entry-spec : {M : Type 1} → statement M

@@ -11,7 +11,8 @@ returns : tie.Need-returns
 returns c =
     let args = c .args in
     let operation = args .operation in
-    sets-seven (args .book .now) (entryStart (args .i)) (args .transaction) (args .object) (operation .number) (operation .key) (operation .value) (args .answer .code) (args .answer .value)
+    sets-seven (args .book .now) (entryStart (args .i)) (args .transaction) (args .object) (operation .number)
+    (operation .key) (operation .value) (args .answer .code) (args .answer .value)
 
 pub put-spec : {M : Type 1} → statement M
 put-spec =

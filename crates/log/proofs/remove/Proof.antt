@@ -18,7 +18,8 @@ returns c =
     let gathered = cleared .before .before .before .before in
     let counted = gathered .before .before in
     let start = counted .before .before .before in
-    dropped-words (start .args .book .now) (start .pre) (start .args .transaction) _ _ _ _ (counted .entry-count .ensures) (gathered .gather .ensures) (cleared .clear .ensures)
+    dropped-words (start .args .book .now) (start .pre) (start .args .transaction) _ _ _ _
+    (counted .entry-count .ensures) (gathered .gather .ensures) (cleared .clear .ensures)
 
 pub remove-spec : {M : Type 1} → statement M
 remove-spec =

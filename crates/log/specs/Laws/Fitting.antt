@@ -6,13 +6,14 @@ use mathlib.Core.Logic.{_↔_, _⊎_, inl, inr, ⊎-elim}
 use mathlib.Core.Option.{some, Option·none-ne-some}
 use mathlib.Core.List.{List}
 use native.Mathlib.Omega.{arith}
-use borrow.Author.Tests.{eqb-true, eq-eqb, ltb-true, lt-ltb, le-ltb}
+use borrow.Author.Tests.{eqb-true, eq-eqb, ltb-true, lt-ltb}
 use lib.Dec.{eqb, ltb}
 use Rattle.operations.specs.Laws.Cases.{yes, no}
 use Rattle.bitset.specs.Bitset.{has, Holds}
-use Rattle.operations.specs.Operations.{Kind, Operation, onStack, onSet, onTable, push, pop, top, setInsert, setDelete}
-use Rattle.operations.specs.Operations.{member, tableInsert, tableDelete, lookup, size, modify}
-use Rattle.operations.specs.Operations.{kindOf, numberOf, keyOf, reduceKey, StoredKey}
+use Rattle.operations.specs.Operations.{Kind, kindNumber, Operation, onStack, onSet, onTable, kindOf, keyOf, reduceKey}
+use Rattle.operations.specs.Operations.{StoredKey}
+use Rattle.operations.specs.PairRules.{kindNumbered}
+use Rattle.operations.specs.Laws.Numbers.{kind-numbered}
 use Rattle.operations.specs.Laws.Storing.{reduced-below}
 use Rattle.store.specs.Store.{Object, Live, objectOf, Logged}
 use Rattle.store.specs.Layout.{base, decode, word, kindWord, readKind, objectStart}
@@ -20,32 +21,10 @@ use Rattle.store.specs.Layout.{entryStart, entryAt, operationAt, AsStored}
 use Rattle.store.specs.Laws.Lists.{all-each, all-of}
 use Rattle.store.specs.Laws.Objects.{kind-read}
 use Rattle.store.specs.Laws.Reading.{live-below, object-read, kind-below}
-use Rattle.log.specs.Log.{kindBy, EntryLive, EntryOfKind, KeyReduced, EntryFits, LogFits}
+use Rattle.log.specs.Log.{EntryLive, EntryOfKind, EntryKeyReduced, EntryAdmitted, LogFits}
 use Rattle.log.specs.Laws.Checks.{Each}
 
 -- ---- Kinds
-
-pub kind-low : (n : ℕ) → n < 4 → 1 ≡ kindBy n
-kind-low n l = simp (lt-ltb n 4 l)
-
-pub kind-middle : (n : ℕ) → 4 ≤ n → n < 7 → 2 ≡ kindBy n
-kind-middle n l m = simp (le-ltb n 4 l, lt-ltb n 7 m)
-
-pub kind-high : (n : ℕ) → 4 ≤ n → 7 ≤ n → 3 ≡ kindBy n
-kind-high n l m = simp (le-ltb n 4 l, le-ltb n 7 m)
-
-kind-by : (o : Operation) → kindBy (numberOf o) ≡ kindWord (some (kindOf o))
-kind-by (onStack (push x)) = refl
-kind-by (onStack pop) = refl
-kind-by (onStack top) = refl
-kind-by (onSet (setInsert k)) = refl
-kind-by (onSet (setDelete k)) = refl
-kind-by (onSet (member k)) = refl
-kind-by (onTable (tableInsert k v)) = refl
-kind-by (onTable (tableDelete k)) = refl
-kind-by (onTable (lookup k)) = refl
-kind-by (onTable size) = refl
-kind-by (onTable (modify k v)) = refl
 
 kind-written : (n : ℕ) (k : Kind) → readKind n ≡ some k → n ≡ kindWord (some k)
 kind-written zero k e = absurd (Option·none-ne-some k e)
@@ -86,9 +65,12 @@ module _ (w : List ℕ) (i : ℕ) where
   kind-past o e l =
       no refl (λ k. omega (arith, kind-below base w (word w (entryStart i + 1)) (kindOf (operationAt w i)) k))
 
-  module _ (stored : AsStored w i) (n kind : ℕ) (number : n ≡ word w (entryStart i + 2)) (by : kind ≡ kindBy n) where
+  module _ (stored : AsStored w i) (n kind : ℕ) (number : n ≡ word w (entryStart i + 2))
+      (by : kind ≡ kindNumber (kindNumbered n)) where
     kind-stored : kind ≡ kindWord (some (kindOf (operationAt w i)))
-    kind-stored = by ∙ ap kindBy (number ∙ sym (stored .0)) ∙ kind-by (operationAt w i)
+    kind-stored =
+        by ∙ ap (λ (m : ℕ). kindNumber (kindNumbered m)) (number ∙ sym (stored .0))
+        ∙ ap kindNumber (kind-numbered (operationAt w i))
 
     pub kind-tested : (o x : ℕ) → o ≡ word w (entryStart i + 1) → o < 16 → x ≡ word w (objectStart o)
         → (eqb x kind ≡ true) ↔ EntryOfKind w i
@@ -97,11 +79,11 @@ module _ (w : List ℕ) (i : ℕ) where
         rw (← e)
         (λ q. h .0 (m, sym r ∙ eqb-true x kind q ∙ kind-stored), λ p. eq-eqb x kind (r ∙ h .1 p .1 ∙ sym kind-stored))
 
-    pub no-key : kind ≡ 1 → (eqb kind 1 ≡ true) ↔ KeyReduced w i
+    pub no-key : kind ≡ 1 → (eqb kind 1 ≡ true) ↔ EntryKeyReduced w i
     no-key e = yes (eq-eqb kind 1 e) (stored-key (operationAt w i) .0 (inl (sym kind-stored ∙ e)))
 
     pub key-tested : (k : ℕ) → k ≡ word w (entryStart i + 3) → (kind ≡ 1 → ⊥)
-        → (ltb k 16_777_216 ≡ true) ↔ KeyReduced w i
+        → (ltb k 16_777_216 ≡ true) ↔ EntryKeyReduced w i
     key-tested k e other =
         let o = operationAt w i in
         let same : k ≡ keyOf o = e ∙ sym (stored .1) in (
@@ -113,7 +95,7 @@ module _ (w : List ℕ) (i : ℕ) where
 
 -- ---- All entries
 
-pub each-fits : (w : List ℕ) (n : ℕ) → n ≡ word w 0 → Each (EntryFits w) n ↔ LogFits w
+pub each-fits : (w : List ℕ) (n : ℕ) → n ≡ word w 0 → Each (EntryAdmitted w) n ↔ LogFits w
 each-fits w n counted =
     let s = decode base w in
     let Alive : Logged → Type 0 = λ (l : Logged). Live s (l .entry .transaction) in

@@ -14,6 +14,7 @@ use lib.ListN.{length, take, drop, List·getD-eq-default}
 use lib.Seq.{getD-drop}
 use Rattle.operations.specs.Operations.{numbered, stored, numberOf}
 use Rattle.operations.specs.Laws.Cases.{same, no}
+use Rattle.store.specs.Layout.{BookLong}
 use Rattle.store.specs.Layout.{base, word, orPop, entryStart, ObjectPacked, AsStored, Packed}
 use Rattle.layout.specs.Laws.{or-zero}
 use Rattle.log.specs.Log.{StoredWords, LogBounded}
@@ -21,7 +22,7 @@ use Rattle.log.specs.Log.{StoredWords, LogBounded}
 -- ---- One operation
 
 -- An argument x of operation n where the mask has bit n, else 0.
-abbrev pub masked : ℕ → ℕ → ℕ → ℕ
+abbrev masked : ℕ → ℕ → ℕ → ℕ
 masked mask n x = bitAnd (mask / 2 ^ n) 1 * x
 
 at-most : (b x : ℕ) → b ≤ 1 → b * x ≤ x
@@ -100,7 +101,7 @@ module _ (w : List ℕ) (n : ℕ) (counted : n ≡ word w 0) where
   too-many l = no refl (λ p. omega (arith, p .entries))
 
   -- The words from place a on, as a part of w that is lent.
-  abbrev pub from : ℕ → List ℕ
+  abbrev from : ℕ → List ℕ
   from a = take (length w - a) (drop a w)
 
   from-at : (a i : ℕ) → word (from a) i ≡ word w (a + i)
@@ -123,7 +124,7 @@ module _ (w : List ℕ) where
   pub packed-bounded : Packed base w → LogBounded w
   packed-bounded p = record { entries = p .log .entries; unused = p .log .unused }
 
-  pub bounded-packed : length w ≡ 3_937 → ((o : ℕ) → o < 16 → ObjectPacked w o) → LogBounded w
+  pub bounded-packed : BookLong w → ((o : ℕ) → o < 16 → ObjectPacked w o) → LogBounded w
       → ((i : ℕ) → i < word w 0 → AsStored w i) → Packed base w
   bounded-packed size objects bounded stored =
       record {

@@ -11,15 +11,19 @@ use Rattle.objects.proofs.close_at.Statement.{statement}
 use Rattle.objects.proofs.close_at.Tie as tie
 
 abbrev Inv-loop : tie.InvT-loop
-Inv-loop part₀ at last i₀ part i = (i ≤ last) × (length part ≡ length part₀) × Closing part₀ (removedAt at (rowsIn part₀)) part i
+Inv-loop part₀ at last i₀ part i =
+    (i ≤ last) × (length part ≡ length part₀) × Closing part₀ (removedAt at (rowsIn part₀)) part i
 
 abbrev μ-loop : tie.MeasureT-loop
 μ-loop part₀ at last i₀ part i = last - i
 
 loop-holds : tie.Need-loop-holds Inv-loop μ-loop
 loop-holds c =
-    let start = c .before .before .before in
-    (omega (arith, start .pre .1, c .wide .ensures), refl, closing-start (start .args .part .now) (start .args .at) (start .pre .0))
+    let start = c .before .before .before in (
+      omega (arith, start .pre .1, c .wide .ensures),
+      refl,
+      closing-start (start .args .part .now) (start .args .at) (start .pre .0),
+    )
 
 slice-write-part-2 : tie.Need-slice-write-part-2 Inv-loop μ-loop
 slice-write-part-2 c = simp length-set (omega arith)
@@ -47,7 +51,8 @@ returns : tie.Need-returns Inv-loop μ-loop
 returns c =
     let at-loop = c .before in
     let start = at-loop .before .before .before .before in
-    closing-end (start .args .part .now) _ (at-loop .loop .part) (at-loop .loop .i) (at-loop .loop .inv .2) _ (omega (arith, at-loop .loop .inv .0))
+    closing-end (start .args .part .now) _ (at-loop .loop .part) (at-loop .loop .i) (at-loop .loop .inv .2) _
+    (omega (arith, at-loop .loop .inv .0))
     (omega (arith, at-loop .before .wide .ensures, start .pre .1)) (start .pre .0 .rows)
 
 pub close-at-spec : {M : Type 1} → statement M

@@ -34,12 +34,14 @@ returns : tie.Need-returns
 returns c =
     let closed = c .before .before in
     let p = closed .before .before .before in
-    closed .close-at .ensures ∙ ap (withRows (part p)) (removed-deleted (part p) (start p .args .key) _ (here p) (found (closed .before .before)))
+    closed .close-at .ensures
+    ∙ ap (withRows (part p)) (removed-deleted (part p) (start p .args .key) _ (here p) (found (closed .before .before)))
 
 returns-2 : tie.Need-returns-2
 returns-2 c =
     let p = c .before in
-    kept (part p) _ (start p .pre) (absent (start p .args .key) (rowsIn (part p)) (sym (p .present .ensures) ∙ c .if1 .left) .deletes)
+    kept (part p) _ (start p .pre)
+    (absent (start p .args .key) (rowsIn (part p)) (sym (p .present .ensures) ∙ c .if1 .left) .deletes)
 
 pub delete-spec : {M : Type 1} → statement M
 delete-spec =

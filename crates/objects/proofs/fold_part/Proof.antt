@@ -6,8 +6,9 @@ use mathlib.Core.List.{List}
 use borrow.Author.Needs.{needs}
 use Rattle.operations.specs.Operations.{Row}
 use Rattle.operations.specs.declared.Operation.{Operation}
-use Rattle.replay.specs.Replay.{nextOf}
-use Rattle.replay.specs.Laws.Numbers.{next-push, next-pop, next-set-insert, next-table-insert, next-delete, next-modify, next-same}
+use Rattle.replay.specs.Replay.{nextNamed}
+use Rattle.replay.specs.Laws.Numbers.{next-push, next-pop, next-set-insert, next-table-insert, next-delete, next-modify}
+use Rattle.replay.specs.Laws.Numbers.{next-same}
 use Rattle.objects.specs.Objects.{rowsIn, withRows}
 use Rattle.objects.specs.Laws.Writing.{kept, push-room}
 use Rattle.objects.proofs.fold_part.Statement.{statement}
@@ -35,8 +36,9 @@ insert-requires-2 c κs =
     (s .pre .0, rw (next-table-insert (asked s) (rowsIn (part s)) (c .before .match .keys5)) at (s .pre .1))
 
 -- The rows of an arm are the next rows.
-answered : (s : tie.Start) (after : List ℕ) (rs : List Row) → after ≡ withRows (part s) rs → nextOf (asked s) (rowsIn (part s)) ≡ rs
-    → after ≡ withRows (part s) (nextOf (asked s) (rowsIn (part s)))
+answered : (s : tie.Start) (after : List ℕ) (rs : List Row) → after ≡ withRows (part s) rs
+    → nextNamed (asked s) (rowsIn (part s)) ≡ rs
+    → after ≡ withRows (part s) (nextNamed (asked s) (rowsIn (part s)))
 answered s after rs e next = e ∙ ap (withRows (part s)) (sym next)
 
 returns : tie.Need-returns
@@ -75,7 +77,8 @@ returns-7 c =
     let rest = c .match .rest in
     let n58 = rest .0 .0 .1 in
     kept (part s) _ (s .pre .0)
-    (next-same (asked s) (rowsIn (part s)) (rest .0 .0 .0 .0 .0 .1) (rest .0 .0 .0 .0 .1) (rest .0 .0 .0 .1) (λ e. n58 (inl e)) (rest .0 .1) (λ e. n58 (inr e)) (rest .1))
+    (next-same (asked s) (rowsIn (part s)) (rest .0 .0 .0 .0 .0 .1) (rest .0 .0 .0 .0 .1) (rest .0 .0 .0 .1)
+    (λ e. n58 (inl e)) (rest .0 .1) (λ e. n58 (inr e)) (rest .1))
 
 pub fold-part-spec : {M : Type 1} → statement M
 fold-part-spec =

@@ -28,7 +28,8 @@ absent c = sym (c .before .present .ensures) ∙ not-true _ (c .if1 .taken)
 open-at-requires : tie.Need-open-at-requires
 open-at-requires c κs =
     let p = c .before .before in
-    let free = room (part p) (start p .args .key) _ (here p) (start p .args .value) (absent (c .before)) (start p .pre .1) in
+    let free = room (part p) (start p .args .key) _ (here p) (start p .args .value)
+    (absent (c .before)) (start p .pre .1) in
     (start p .pre .0, free .0, free .1)
 
 returns : tie.Need-returns
@@ -36,12 +37,14 @@ returns c =
     let opened = c .before .before in
     let p = opened .before .before .before in
     opened .open-at .ensures
-    ∙ ap (withRows (part p)) (put-inserted (part p) (start p .args .key) _ (here p) (start p .args .value) (absent (opened .before .before)))
+    ∙ ap (withRows (part p))
+    (put-inserted (part p) (start p .args .key) _ (here p) (start p .args .value) (absent (opened .before .before)))
 
 returns-2 : tie.Need-returns-2
 returns-2 c =
     let p = c .before in
-    kept (part p) _ (start p .pre .0) (there (start p .args .key) (rowsIn (part p)) (sym (p .present .ensures) ∙ not-false _ (c .if1 .left)) .inserts (start p .args .value))
+    kept (part p) _ (start p .pre .0) (there (start p .args .key) (rowsIn (part p))
+    (sym (p .present .ensures) ∙ not-false _ (c .if1 .left)) .inserts (start p .args .value))
 
 pub insert-spec : {M : Type 1} → statement M
 insert-spec =

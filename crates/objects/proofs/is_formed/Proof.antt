@@ -19,7 +19,8 @@ object c = c .before .before .args .object
 returns : tie.Need-returns
 returns c =
     let k = c .before .before in
-    Iff·trans (c .has-no-values .ensures) (as-stack (book k) (object k) _ (k .object-kind .ensures) (c .before .match .keys1))
+    Iff·trans (c .has-no-values .ensures)
+    (as-stack (book k) (object k) _ (k .object-kind .ensures) (c .before .match .keys1))
 
 returns-2 : tie.Need-returns-2
 returns-2 c =
@@ -32,18 +33,21 @@ returns-3 : tie.Need-returns-3
 returns-3 c =
     let first = c .before in
     let k = first .before .before in
-    Iff·trans (answer-first (first .has-no-values2 .ensures) (c .if1 .left)) (as-set (book k) (object k) _ (k .object-kind .ensures) (first .before .match .keys2))
+    Iff·trans (answer-first (first .has-no-values2 .ensures) (c .if1 .left))
+    (as-set (book k) (object k) _ (k .object-kind .ensures) (first .before .match .keys2))
 
 returns-4 : tie.Need-returns-4
 returns-4 c =
     let k = c .before .before in
-    Iff·trans (c .is-keyed2 .ensures) (as-table (book k) (object k) _ (k .object-kind .ensures) (c .before .match .keys3))
+    Iff·trans (c .is-keyed2 .ensures)
+    (as-table (book k) (object k) _ (k .object-kind .ensures) (c .before .match .keys3))
 
 returns-5 : tie.Need-returns-5
 returns-5 c =
     let k = c .before in
     let rest = c .match .rest in
-    yes refl (as-none (book k) (object k) _ (k .object-kind .ensures) (k .before .before .pre .2) (rest .0 .0 .1) (rest .0 .1) (rest .1))
+    yes refl (as-none (book k) (object k) _ (k .object-kind .ensures) (k .before .before .pre .2)
+    (rest .0 .0 .1) (rest .0 .1) (rest .1))
 
 pub is-formed-spec : {M : Type 1} → statement M
 is-formed-spec =

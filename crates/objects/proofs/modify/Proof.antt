@@ -45,12 +45,15 @@ slice-write-part : tie.Need-slice-write-part
 slice-write-part c = omega (arith, below c, start (c .before) .pre .rows, start (c .before) .pre .long)
 
 returns : tie.Need-returns
-returns c = let p = c .before in stored-modified (part p) (start p .args .key) _ (here p) (start p .pre) (start p .args .value) (found c)
+returns c =
+    let p = c .before in
+    stored-modified (part p) (start p .args .key) _ (here p) (start p .pre) (start p .args .value) (found c)
 
 returns-2 : tie.Need-returns-2
 returns-2 c =
     let p = c .before in
-    kept (part p) _ (start p .pre) (absent (start p .args .key) (rowsIn (part p)) (sym (p .present .ensures) ∙ c .if1 .left) .modifies (start p .args .value))
+    kept (part p) _ (start p .pre) (absent (start p .args .key) (rowsIn (part p))
+    (sym (p .present .ensures) ∙ c .if1 .left) .modifies (start p .args .value))
 
 pub modify-spec : {M : Type 1} → statement M
 modify-spec =

@@ -13,15 +13,19 @@ use Rattle.objects.proofs.open_at.Tie as tie
 
 abbrev Inv-loop : tie.InvT-loop
 Inv-loop part₀ at key value count carried-key₀ carried-value₀ i₀ part carried-key carried-value i =
-    (i ≤ count) × (length part ≡ length part₀) × Opening part₀ (putAt at (row key value) (rowsIn part₀)) part i (row carried-key carried-value)
+    (i ≤ count) × (length part ≡ length part₀)
+    × Opening part₀ (putAt at (row key value) (rowsIn part₀)) part i (row carried-key carried-value)
 
 abbrev μ-loop : tie.MeasureT-loop
 μ-loop part₀ at key value count carried-key₀ carried-value₀ i₀ part carried-key carried-value i = count - i
 
 loop-holds : tie.Need-loop-holds Inv-loop μ-loop
 loop-holds c =
-    let start = c .before .before .before in
-    (omega (arith, start .pre .1, c .wide .ensures), refl, opening-start (start .args .part .now) (start .args .at) _ (start .pre .0))
+    let start = c .before .before .before in (
+      omega (arith, start .pre .1, c .wide .ensures),
+      refl,
+      opening-start (start .args .part .now) (start .args .at) _ (start .pre .0),
+    )
 
 slice-write-part-2 : tie.Need-slice-write-part-2 Inv-loop μ-loop
 slice-write-part-2 c = simp length-set (omega arith)
@@ -50,7 +54,8 @@ returns c =
     let at-loop = c .before in
     let start = at-loop .before .before .before .before in
     let size = at-loop .before .wide .ensures in
-    opening-end (start .args .part .now) _ (at-loop .loop .part) (at-loop .loop .i) _ _ (at-loop .loop .inv .2) _ size (omega (arith, at-loop .loop .inv .0)) (omega (arith, start .pre .2))
+    opening-end (start .args .part .now) _ (at-loop .loop .part) (at-loop .loop .i) _ _ (at-loop .loop .inv .2) _ size
+    (omega (arith, at-loop .loop .inv .0)) (omega (arith, start .pre .2))
 
 pub open-at-spec : {M : Type 1} → statement M
 open-at-spec =

@@ -20,10 +20,16 @@ loop-holds : tie.Need-loop-holds Inv-loop μ-loop
 loop-holds c = (search needs, below-none _)
 
 returns : tie.Need-returns Inv-loop μ-loop
-returns c = no refl (λ all. denied (c .before .is-packed .ensures) (not-true _ (c .if1 .taken)) (all _ (c .before .before .loop-test .taken)))
+returns c =
+    no refl (λ all. denied (c .before .is-packed .ensures) (not-true _ (c .if1 .taken))
+    (all _ (c .before .before .loop-test .taken)))
 
 loop-again : tie.Need-loop-again Inv-loop μ-loop
-loop-again c = (search needs, below-more _ _ (c .before .before .before .loop .inv .1) (c .before .is-packed .ensures .0 (not-false _ (c .if1 .left))))
+loop-again c = (
+  search needs,
+  below-more _ _ (c .before .before .before .loop .inv .1)
+      (c .before .is-packed .ensures .0 (not-false _ (c .if1 .left))),
+)
 
 returns-2 : tie.Need-returns-2 Inv-loop μ-loop
 returns-2 c = yes refl (λ o l. c .before .loop .inv .1 o (omega arith))

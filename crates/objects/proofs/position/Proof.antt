@@ -14,7 +14,8 @@ use Rattle.objects.proofs.position.Statement.{statement}
 use Rattle.objects.proofs.position.Tie as tie
 
 abbrev Inv-loop : tie.InvT-loop
-Inv-loop part key count at₀ at = (at ≤ count) × (at + positionOf key (map rowOf (drop at (pairsIn part))) ≡ positionOf key (rowsIn part))
+Inv-loop part key count at₀ at =
+    (at ≤ count) × (at + positionOf key (map rowOf (drop at (pairsIn part))) ≡ positionOf key (rowsIn part))
 
 abbrev μ-loop : tie.MeasureT-loop
 μ-loop part key count at₀ at = count - at
@@ -32,7 +33,8 @@ returns : tie.Need-returns Inv-loop μ-loop
 returns c =
     let at-loop = c .before .before .before in
     let l = within (c .before .before) in
-    sym (scan-found (key at-loop) (pairsIn (part at-loop)) (at-loop .loop .at) (omega (arith, pairs-count (part at-loop)))
+    sym (scan-found (key at-loop) (pairsIn (part at-loop)) (at-loop .loop .at)
+    (omega (arith, pairs-count (part at-loop)))
     (omega (arith, pair-key (part at-loop) (at-loop .loop .at) l)))
     ∙ at-loop .loop .inv .1
 
@@ -49,7 +51,8 @@ loop-again c =
 returns-2 : tie.Need-returns-2 Inv-loop μ-loop
 returns-2 c =
     let at-loop = c .before in
-    sym (scan-past (key at-loop) (pairsIn (part at-loop)) (at-loop .loop .at) (omega (arith, pairs-count (part at-loop), c .loop-test .left, at-loop .before .wide .ensures)))
+    sym (scan-past (key at-loop) (pairsIn (part at-loop)) (at-loop .loop .at)
+    (omega (arith, pairs-count (part at-loop), c .loop-test .left, at-loop .before .wide .ensures)))
     ∙ at-loop .loop .inv .1
 
 pub position-spec : {M : Type 1} → statement M

@@ -23,7 +23,8 @@ returns-2 : tie.Need-returns-2
 returns-2 c =
     let start = c .before .before .before .before in
     let part = start .args .part .now in
-    present-past (start .args .key) (pairsIn part) (start .args .at) (start .pre .1) (omega (arith, pairs-count part, c .before .wide .ensures, c .if1 .left))
+    present-past (start .args .key) (pairsIn part) (start .args .at) (start .pre .1)
+    (omega (arith, pairs-count part, c .before .wide .ensures, c .if1 .left))
 
 pub present-spec : {M : Type 1} → statement M
 present-spec =

@@ -27,7 +27,8 @@ module _ (k n : ℕ) where
   )
 
 -- The words of a part are 0 where those of the whole are.
-pub zeros : (w : List ℕ) (a e : ℕ) → ((i : ℕ) → word (take (e - a) (drop a w)) i ≡ 0) ↔ ((i : ℕ) → a ≤ i → i < e → word w i ≡ 0)
+zeros : (w : List ℕ) (a e : ℕ) → ((i : ℕ) → word (take (e - a) (drop a w)) i ≡ 0)
+    ↔ ((i : ℕ) → a ≤ i → i < e → word w i ≡ 0)
 zeros w a e = (
   λ z i l m. let f : i ≡ a + (i - a) = omega arith in ap (word w) f ∙ sym (at (i - a) (omega arith)) ∙ z (i - a),
   λ z i. below i (e - a) (λ (l : i < e - a). at i l ∙ z (a + i) (omega arith) (omega arith))
@@ -42,7 +43,9 @@ module _ (w : List ℕ) (o k n : ℕ) (kind : k ≡ word w (objectStart o)) (cou
   packed-range p = record { kind = rw kind (p .kind); rows = rw count (p .rows); none = rw (kind, count) (p .none) }
 
   pub packed-zeros : InRange k n
-      → ((i : ℕ) → word (take (objectStart o + 130 - (objectStart o + 2 + 2 * n)) (drop (objectStart o + 2 + 2 * n) w)) i ≡ 0) ↔ ObjectPacked w o
+      → ((i : ℕ)
+      → word (take (objectStart o + 130 - (objectStart o + 2 + 2 * n)) (drop (objectStart o + 2 + 2 * n) w)) i ≡ 0)
+      ↔ ObjectPacked w o
   packed-zeros r =
       let both = zeros w (objectStart o + 2 + 2 * n) (objectStart o + 130) in (
         λ z. record {

@@ -10,7 +10,7 @@ use lib.ListN.{length, getD, set, take, drop, replicate, length-append, length-s
 use lib.Seq.{set-append-seam, set-split, set-getD, length-take-le, take-all}
 use Rattle.operations.specs.Operations.{Row, row, present, inserted, deleted, modified}
 use Rattle.operations.specs.declared.Operation.{Operation}
-use Rattle.replay.specs.Replay.{rowOf, nextOf, positionOf, putAt, removedAt}
+use Rattle.replay.specs.Replay.{rowOf, nextNamed, positionOf, putAt, removedAt}
 use Rattle.replay.specs.Laws.Lists.{put-next, put-last, removed-next, removed-last}
 use Rattle.replay.specs.Laws.Numbers.{next-push}
 use Rattle.replay.specs.Laws.Positions.{rowAt, there, absent, inserted-more}
@@ -40,7 +40,8 @@ rows-stored (r ∷ rs) rest (suc i) k v l =
     rw e (ap (λ (w : List ℕ). r .key ∷ r .value ∷ w) (rows-stored rs rest i k v (omega arith)))
 
 rows-read : (rs : List Row) (rest : List ℕ) (i : ℕ) → i < length rs
-    → (word (joined rowWords rs ++ rest) (2 * i) ≡ rowAt rs i .key) × (word (joined rowWords rs ++ rest) (suc (2 * i)) ≡ rowAt rs i .value)
+    → (word (joined rowWords rs ++ rest) (2 * i) ≡ rowAt rs i .key)
+    × (word (joined rowWords rs ++ rest) (suc (2 * i)) ≡ rowAt rs i .value)
 rows-read [] rest i l = absurd (not-suc-le-zero l)
 rows-read (r ∷ rs) rest zero l = (refl, refl)
 rows-read (r ∷ rs) rest (suc i) l =
@@ -55,7 +56,8 @@ module _ (kind n : ℕ) (rs : List Row) (rest : List ℕ) where
   laid-snoc : (r : Row) → laid kind n (rs ++ (r ∷ [])) rest ≡ laid kind n rs (r .key ∷ r .value ∷ rest)
   laid-snoc r =
       ap (λ (w : List ℕ). kind ∷ n ∷ w)
-      (ap (λ (w : List ℕ). w ++ rest) (joined-append rowWords rs (r ∷ [])) ∙ append-assoc (joined rowWords rs) (rowWords r) rest)
+      (ap (λ (w : List ℕ). w ++ rest) (joined-append rowWords rs (r ∷ []))
+      ∙ append-assoc (joined rowWords rs) (rowWords r) rest)
 
   module _ (i : ℕ) (l : i < length rs) where
     two : 2 + 2 * i ≡ suc (suc (2 * i))
@@ -64,7 +66,8 @@ module _ (kind n : ℕ) (rs : List Row) (rest : List ℕ) where
     three : 2 + 2 * i + 1 ≡ suc (suc (suc (2 * i)))
     three = omega arith
 
-    laid-stored : (k v : ℕ) → set (set (laid kind n rs rest) (2 + 2 * i) k) (2 + 2 * i + 1) v ≡ laid kind n (set rs i (row k v)) rest
+    laid-stored : (k v : ℕ)
+        → set (set (laid kind n rs rest) (2 + 2 * i) k) (2 + 2 * i + 1) v ≡ laid kind n (set rs i (row k v)) rest
     laid-stored k v = rw (three, two) (ap (λ (w : List ℕ). kind ∷ n ∷ w) (rows-stored rs rest i k v l))
 
     laid-key : word (laid kind n rs rest) (2 + 2 * i) ≡ rowAt rs i .key
@@ -75,9 +78,11 @@ module _ (kind n : ℕ) (rs : List Row) (rest : List ℕ) where
 
 -- The row past the last.
 laid-pushed : (kind n : ℕ) (rs : List Row) (rest : List ℕ) (x y k v : ℕ)
-    → set (set (laid kind n rs (x ∷ y ∷ rest)) (2 + 2 * length rs) k) (2 + 2 * length rs + 1) v ≡ laid kind n (rs ++ (row k v ∷ [])) rest
+    → set (set (laid kind n rs (x ∷ y ∷ rest)) (2 + 2 * length rs) k) (2 + 2 * length rs + 1) v
+    ≡ laid kind n (rs ++ (row k v ∷ [])) rest
 laid-pushed kind n rs rest x y k v =
-    ap (λ (w : List ℕ). set (set w (2 + 2 * length rs) k) (2 + 2 * length rs + 1) v) (sym (laid-snoc kind n rs rest (row x y)))
+    ap (λ (w : List ℕ). set (set w (2 + 2 * length rs) k) (2 + 2 * length rs + 1) v)
+    (sym (laid-snoc kind n rs rest (row x y)))
     ∙ laid-stored kind n (rs ++ (row x y ∷ [])) rest (length rs) (simp length-append (omega arith)) k v
     ∙ ap (λ (q : List Row). laid kind n q rest) (set-append-seam rs (row x y) [] (row k v))
 
@@ -85,10 +90,12 @@ laid-pushed kind n rs rest x y k v =
 abbrev zeros : ℕ → List ℕ → List ℕ
 zeros n rest = replicate (128 - 2 * n) 0 ++ rest
 
-object-laid : (kind : ℕ) (rs : List Row) (rest : List ℕ) (n : ℕ) → length rs ≡ n → wordsOf kind rs ++ rest ≡ laid kind n rs (zeros n rest)
+object-laid : (kind : ℕ) (rs : List Row) (rest : List ℕ) (n : ℕ) → length rs ≡ n
+    → wordsOf kind rs ++ rest ≡ laid kind n rs (zeros n rest)
 object-laid kind rs rest n e =
     ap (λ (w : List ℕ). kind ∷ length rs ∷ w)
-    (append-assoc (joined rowWords rs) _ rest ∙ ap (λ (m : ℕ). joined rowWords rs ++ (replicate (128 - m) 0 ++ rest)) (rows-length rs))
+    (append-assoc (joined rowWords rs) _ rest
+    ∙ ap (λ (m : ℕ). joined rowWords rs ++ (replicate (128 - m) 0 ++ rest)) (rows-length rs))
     ∙ ap (λ (m : ℕ). laid kind m rs (zeros m rest)) e
 
 zeros-two : (n : ℕ) (rest : List ℕ) → n < 64 → zeros n rest ≡ 0 ∷ 0 ∷ zeros (n + 1) rest
@@ -146,15 +153,21 @@ Opening w target part i carried = (rs : List Row) × Stands w part rs × (putAt 
 pub opening-start : (w : List ℕ) (i : ℕ) (r : Row) → StartsPacked w → Opening w (putAt i r (rowsIn w)) w i r
 opening-start w i r packed = (rowsIn w, stands-start w packed, refl)
 
-module _ (w : List ℕ) (target : List Row) (part : List ℕ) (i k v : ℕ) (opening : Opening w target part i (row k v)) where
-  pub opening-next : i < word w 1 → Opening w target (set (set part (2 + 2 * i) k) (2 + 2 * i + 1) v) (i + 1) (row (word part (2 + 2 * i)) (word part (2 + 2 * i + 1)))
+module _ (w : List ℕ) (target : List Row) (part : List ℕ) (i k v : ℕ)
+    (opening : Opening w target part i (row k v)) where
+  pub opening-next : i < word w 1 → Opening w target (set (set part (2 + 2 * i) k) (2 + 2 * i + 1) v) (i + 1)
+      (row (word part (2 + 2 * i)) (word part (2 + 2 * i + 1)))
   opening-next l =
       let rs = opening .0 in
       let s = opening .1 in
-      let within : i < length rs = omega (arith, s .count) in
-      (set rs i (row k v), stands-stored w part rs s i l k v, rw (add-one, stands-read w part rs s i l) (put-next rs i (row k v) (row 0 0) within ∙ opening .2))
+      let within : i < length rs = omega (arith, s .count) in (
+        set rs i (row k v),
+        stands-stored w part rs s i l k v,
+        rw (add-one, stands-read w part rs s i l) (put-next rs i (row k v) (row 0 0) within ∙ opening .2),
+      )
 
-  pub opening-end : (n : ℕ) → n ≡ word w 1 → i ≡ n → n < 64 → set (set (set part (2 + 2 * n) k) (2 + 2 * n + 1) v) 1 (n + 1) ≡ withRows w target
+  pub opening-end : (n : ℕ) → n ≡ word w 1 → i ≡ n → n < 64
+      → set (set (set part (2 + 2 * n) k) (2 + 2 * n + 1) v) 1 (n + 1) ≡ withRows w target
   opening-end n size at l =
       let rs = opening .0 in
       let s = opening .1 in
@@ -163,10 +176,14 @@ module _ (w : List ℕ) (target : List Row) (part : List ℕ) (i k v : ℕ) (ope
       let count : length rs ≡ n = s .count ∙ sym size in
       let words : part ≡ laid kind n rs (0 ∷ 0 ∷ zeros (n + 1) rest) =
       s .words ∙ ap (λ (m : ℕ). laid kind m rs (zeros m rest)) (sym size) ∙ ap (laid kind n rs) (zeros-two n rest l) in
-      let rows : rs ++ (row k v ∷ []) ≡ target = sym (put-last rs (row k v)) ∙ ap (λ (m : ℕ). putAt m (row k v) rs) (count ∙ sym at) ∙ opening .2 in
-      let more : length target ≡ n + 1 = ap length (sym rows) ∙ length-append rs (row k v ∷ []) ∙ ap (λ (m : ℕ). m + 1) count in
+      let rows : rs ++ (row k v ∷ []) ≡ target =
+      sym (put-last rs (row k v)) ∙ ap (λ (m : ℕ). putAt m (row k v) rs) (count ∙ sym at) ∙ opening .2 in
+      let more : length target ≡ n + 1 =
+      ap length (sym rows) ∙ length-append rs (row k v ∷ []) ∙ ap (λ (m : ℕ). m + 1) count in
       ap (λ (q : List ℕ). set (set (set q (2 + 2 * n) k) (2 + 2 * n + 1) v) 1 (n + 1)) words
-      ∙ ap (λ (m : ℕ). set (set (set (laid kind n rs (0 ∷ 0 ∷ zeros (n + 1) rest)) (2 + 2 * m) k) (2 + 2 * m + 1) v) 1 (n + 1)) (sym count)
+      ∙ ap (λ (m : ℕ).
+      set (set (set (laid kind n rs (0 ∷ 0 ∷ zeros (n + 1) rest)) (2 + 2 * m) k) (2 + 2 * m + 1) v) 1 (n + 1))
+      (sym count)
       ∙ ap (λ (q : List ℕ). set q 1 (n + 1)) (laid-pushed kind n rs (zeros (n + 1) rest) 0 0 k v)
       ∙ ap (λ (q : List Row). laid kind (n + 1) q (zeros (n + 1) rest)) rows
       ∙ sym (object-laid kind target rest (n + 1) more)
@@ -180,18 +197,21 @@ pub closing-start : (w : List ℕ) (i : ℕ) → StartsPacked w → Closing w (r
 closing-start w i packed = (rowsIn w, stands-start w packed, refl)
 
 module _ (w : List ℕ) (target : List Row) (part : List ℕ) (i : ℕ) (closing : Closing w target part i) where
-  pub closing-next : i + 1 < word w 1 → Closing w target (set (set part (2 + 2 * i) (word part (2 + 2 * i + 2))) (2 + 2 * i + 1) (word part (2 + 2 * i + 3))) (i + 1)
+  pub closing-next : i + 1 < word w 1 → Closing w target
+      (set (set part (2 + 2 * i) (word part (2 + 2 * i + 2))) (2 + 2 * i + 1) (word part (2 + 2 * i + 3))) (i + 1)
   closing-next l =
       let rs = closing .0 in
       let s = closing .1 in
       let next : row (word part (2 + 2 * i + 2)) (word part (2 + 2 * i + 3)) ≡ rowAt rs (suc i) =
-      ap₂ (λ (a b : ℕ). row (word part a) (word part b)) (omega arith) (omega arith) ∙ stands-read w part rs s (i + 1) l ∙ ap (rowAt rs) (add-one i) in (
+      ap₂ (λ (a b : ℕ). row (word part a) (word part b)) (omega arith) (omega arith) ∙ stands-read w part rs s (i + 1) l
+      ∙ ap (rowAt rs) (add-one i) in (
         set rs i (row (word part (2 + 2 * i + 2)) (word part (2 + 2 * i + 3))),
         stands-stored w part rs s i (omega arith) _ _,
         rw (add-one, next) (removed-next rs i (row 0 0) (omega (arith, s .count)) ∙ closing .2),
       )
 
-  pub closing-end : (last : ℕ) → i ≡ last → last + 1 ≡ word w 1 → word w 1 ≤ 64 → set (set (set part (2 + 2 * last) 0) (2 + 2 * last + 1) 0) 1 last ≡ withRows w target
+  pub closing-end : (last : ℕ) → i ≡ last → last + 1 ≡ word w 1 → word w 1 ≤ 64
+      → set (set (set part (2 + 2 * last) 0) (2 + 2 * last + 1) 0) 1 last ≡ withRows w target
   closing-end last at size l =
       let rs = closing .0 in
       let s = closing .1 in
@@ -200,8 +220,10 @@ module _ (w : List ℕ) (target : List Row) (part : List ℕ) (i : ℕ) (closing
       let e : i + 1 ≡ word w 1 = omega arith in
       let stored = stands-stored w part rs s i (omega arith) 0 0 in
       let front : set rs i (row 0 0) ≡ take i rs ++ (row 0 0 ∷ []) =
-      set-split rs i (row 0 0) (omega (arith, s .count)) ∙ ap (λ (q : List Row). take i rs ++ (row 0 0 ∷ q)) (drop-of-length-le rs {i = suc i} (omega (arith, s .count))) in
-      let free : 0 ∷ 0 ∷ zeros (word w 1) rest ≡ zeros i rest = ap (λ (m : ℕ). 0 ∷ 0 ∷ zeros m rest) (sym e) ∙ sym (zeros-two i rest (omega arith)) in
+      set-split rs i (row 0 0) (omega (arith, s .count)) ∙ ap (λ (q : List Row). take i rs ++ (row 0 0 ∷ q))
+      (drop-of-length-le rs {i = suc i} (omega (arith, s .count))) in
+      let free : 0 ∷ 0 ∷ zeros (word w 1) rest ≡ zeros i rest =
+      ap (λ (m : ℕ). 0 ∷ 0 ∷ zeros m rest) (sym e) ∙ sym (zeros-two i rest (omega arith)) in
       let rows : take i rs ≡ target = sym (removed-last rs i (omega (arith, s .count))) ∙ closing .2 in
       rw (← at)
       (ap (λ (q : List ℕ). set q 1 i) (stored .words)
@@ -215,8 +237,9 @@ module _ (w : List ℕ) (target : List Row) (part : List ℕ) (i : ℕ) (closing
 pub kept : (w : List ℕ) (rs : List Row) → StartsPacked w → rs ≡ rowsIn w → w ≡ withRows w rs
 kept w rs packed e = packed .words ∙ ap (withRows w) (sym e)
 
-pub push-room : (w : List ℕ) (o : Operation) → o .number ≡ 1 → length (nextOf o (rowsIn w)) ≤ 64 → word w 1 < 64
-push-room w o e l = omega (arith, ap length (next-push o (rowsIn w) e), length-append (rowsIn w) (row (o .key) 0 ∷ []), rows-count w)
+pub push-room : (w : List ℕ) (o : Operation) → o .number ≡ 1 → length (nextNamed o (rowsIn w)) ≤ 64 → word w 1 < 64
+push-room w o e l =
+    omega (arith, ap length (next-push o (rowsIn w) e), length-append (rowsIn w) (row (o .key) 0 ∷ []), rows-count w)
 
 module _ (w : List ℕ) (n : ℕ) (size : n ≡ word w 1) where
   pub put-past : (r : Row) → putAt n r (rowsIn w) ≡ rowsIn w ++ (r ∷ [])
@@ -224,7 +247,8 @@ module _ (w : List ℕ) (n : ℕ) (size : n ≡ word w 1) where
 
   pub last-removed : 0 < n → removedAt (n - 1) (rowsIn w) ≡ take (length (rowsIn w) - 1) (rowsIn w)
   last-removed l =
-      removed-last (rowsIn w) (n - 1) (omega (arith, rows-count w)) ∙ ap (λ (m : ℕ). take (m - 1) (rowsIn w)) (size ∙ sym (rows-count w))
+      removed-last (rowsIn w) (n - 1) (omega (arith, rows-count w))
+      ∙ ap (λ (m : ℕ). take (m - 1) (rowsIn w)) (size ∙ sym (rows-count w))
 
   pub none-removed : n ≤ 0 → take (length (rowsIn w) - 1) (rowsIn w) ≡ rowsIn w
   none-removed l = take-all (length (rowsIn w) - 1) (rowsIn w) (omega (arith, rows-count w))
@@ -233,8 +257,12 @@ module _ (w : List ℕ) (k at : ℕ) (here : at ≡ positionOf k (rowsIn w)) whe
   pub within : present k (rowsIn w) ≡ true → at < word w 1
   within h = omega (arith, rows-count w, there k (rowsIn w) h .within)
 
-  pub room : (v : ℕ) → present k (rowsIn w) ≡ false → length (inserted k v (rowsIn w)) ≤ 64 → (at ≤ word w 1) × (word w 1 < 64)
-  room v h l = (omega (arith, rows-count w, absent k (rowsIn w) h .within), omega (arith, rows-count w, inserted-more k (rowsIn w) v h))
+  pub room : (v : ℕ) → present k (rowsIn w) ≡ false → length (inserted k v (rowsIn w)) ≤ 64
+      → (at ≤ word w 1) × (word w 1 < 64)
+  room v h l = (
+    omega (arith, rows-count w, absent k (rowsIn w) h .within),
+    omega (arith, rows-count w, inserted-more k (rowsIn w) v h),
+  )
 
   pub put-inserted : (v : ℕ) → present k (rowsIn w) ≡ false → putAt at (row k v) (rowsIn w) ≡ inserted k v (rowsIn w)
   put-inserted v h = rw here (sym (absent k (rowsIn w) h .inserts v))
@@ -242,7 +270,9 @@ module _ (w : List ℕ) (k at : ℕ) (here : at ≡ positionOf k (rowsIn w)) whe
   pub removed-deleted : present k (rowsIn w) ≡ true → removedAt at (rowsIn w) ≡ deleted k (rowsIn w)
   removed-deleted h = rw here (sym (there k (rowsIn w) h .deletes))
 
-  pub stored-modified : StartsPacked w → (v : ℕ) → present k (rowsIn w) ≡ true → set w (2 + 2 * at + 1) v ≡ withRows w (modified k v (rowsIn w))
+  pub stored-modified : StartsPacked w → (v : ℕ) → present k (rowsIn w) ≡ true
+      → set w (2 + 2 * at + 1) v ≡ withRows w (modified k v (rowsIn w))
   stored-modified packed v h =
       let t = there k (rowsIn w) h in
-      value-stored w at k v packed (within h) (rw here (t .key)) ∙ ap (withRows w) (ap (λ (m : ℕ). set (rowsIn w) m (row k v)) here ∙ sym (t .modifies v))
+      value-stored w at k v packed (within h) (rw here (t .key))
+      ∙ ap (withRows w) (ap (λ (m : ℕ). set (rowsIn w) m (row k v)) here ∙ sym (t .modifies v))

@@ -46,7 +46,8 @@ module _ {A : Type 0} where
   all-append P [] m p q = q
   all-append P (x ∷ l) m p q = (p .0, all-append P l m (p .1) q)
 
-  pub all-filter : {P Q : A → Type 0} {picked : A → Bool} → ((x : A) → P x → picked x ≡ true → Q x) → (l : List A) → All P l → All Q (filter picked l)
+  pub all-filter : {P Q : A → Type 0} {picked : A → Bool} → ((x : A) → P x → picked x ≡ true → Q x) → (l : List A)
+      → All P l → All Q (filter picked l)
   all-filter f [] p = tt
   all-filter {picked = picked} f (x ∷ l) p =
       split (picked x) (λ (k : picked x ≡ true). rw k (f x (p .0) k, all-filter f l (p .1)))

@@ -1,20 +1,26 @@
 -- Stacks, sets and tables are object types: the laws of `Log`, for an object of each kind.
 use Prim.Native.Nat.{ℕ}
 use mathlib.Core.Path.{_≡_, sym, ap, _∙_, subst}
-use mathlib.Core.Bool.{true, not, _&&_, and-eq-true-iff}
+use mathlib.Core.Bool.{true}
 use mathlib.Core.List.{List}
 use native.Mathlib.Omega.{arith}
-use Rattle.operations.specs.Operations.{Kind, Stack, Set, Table, Row, Reply, StackOperation, SetOperation, TableOperation, Operation, onStack, onSet, onTable, kindOf, next, reply, WellFormed, StoredKey, Fits}
+use Rattle.operations.specs.Operations.{Kind, Stack, Set, Table, Row, Answer, StackOperation, SetOperation}
+use Rattle.operations.specs.Operations.{TableOperation, Operation, onStack, onSet, onTable, kindOf, next, answer}
+use Rattle.operations.specs.Operations.{WellFormed, StoredKey, Fits}
 use Rattle.operations.specs.PairRules.{firstNumber, recoverable, commutes}
-use Rattle.operations.specs.Log.{ObjectType}
-use Rattle.operations.specs.Laws.Stacks.{StackView, stackView, stack-valid, stack-reply, stack-view-next, stack-view-recoverable, stack-commutes}
-use Rattle.operations.specs.Laws.Sets.{SetView, setView, set-values, set-reduced, set-ascending, set-reply, set-view-next, set-view-recoverable, set-commutes}
-use Rattle.operations.specs.Laws.Grid.{rewrites, commuting-mutual}
-use Rattle.operations.specs.Laws.Tables.{TableView, tableView, next-ascending, next-reduced, table-reply, table-view-next, table-view-recoverable, table-commutes}
+use Rattle.operations.specs.Laws.ObjectTypes.{ObjectType}
+use Rattle.operations.specs.Laws.Stacks.{StackView, stackView, stack-valid, stack-answer, stack-view-next}
+use Rattle.operations.specs.Laws.Stacks.{stack-view-recoverable, stack-commutes}
+use Rattle.operations.specs.Laws.Sets.{SetView, setView, set-values, set-reduced, set-ascending, set-answer}
+use Rattle.operations.specs.Laws.Sets.{set-view-next, set-view-recoverable, set-commutes}
+use Rattle.operations.specs.Laws.Grid.{commuting-mutual}
+use Rattle.operations.specs.Laws.Tables.{TableView, tableView, next-ascending, next-reduced, table-answer}
+use Rattle.operations.specs.Laws.Tables.{table-view-next, table-view-recoverable, table-commutes}
 
 -- ---- By the kind of one operation, and of two
 
-pub byKind : (P : Kind → Operation → Type 0) → ((o : StackOperation) → P Stack (onStack o)) → ((o : SetOperation) → P Set (onSet o))
+pub byKind : (P : Kind → Operation → Type 0) → ((o : StackOperation) → P Stack (onStack o))
+    → ((o : SetOperation) → P Set (onSet o))
     → ((o : TableOperation) → P Table (onTable o)) → (kind : Kind) (o : Operation) → kindOf o ≡ kind → P kind o
 byKind P f g h kind o e = subst (λ (k : Kind). P k o) e (own o)
   where
@@ -52,46 +58,59 @@ view (onSet o) rs = setView o rs
 view (onTable o) rs = tableView o rs
 
 module _ (reduce : ℕ → ℕ) (kind : Kind) where
-  pub valid-next : (o : Operation) (rs : List Row) → Fits reduce kind o → WellFormed reduce kind rs → WellFormed reduce kind (next o rs)
+  pub valid-next : (o : Operation) (rs : List Row) → Fits reduce kind o → WellFormed reduce kind rs
+      → WellFormed reduce kind (next o rs)
   valid-next o rs f =
-      byKind (λ (k : Kind) (p : Operation). StoredKey reduce p → WellFormed reduce k rs → WellFormed reduce k (next p rs)) (λ p red v. stack-valid p rs v)
+      byKind (λ (k : Kind) (p : Operation). StoredKey reduce p → WellFormed reduce k rs
+      → WellFormed reduce k (next p rs)) (λ p red v. stack-valid p rs v)
       (λ p red v. (set-values p rs (v .0), set-reduced reduce p rs red (v .1), set-ascending p rs (v .2)))
       (λ p red v. (next-reduced reduce p rs red (v .0), next-ascending p rs (v .1))) kind o (f .0) (f .1)
 
-  pub reply-view : (o : Operation) (s t : List Row) → Fits reduce kind o → WellFormed reduce kind s → WellFormed reduce kind t → view o s ≡ view o t
-      → reply o s ≡ reply o t
-  reply-view o s t f =
-      byKind (λ (k : Kind) (q : Operation). WellFormed reduce k s → WellFormed reduce k t → view q s ≡ view q t → reply q s ≡ reply q t)
-      (λ q v w. stack-reply q s t) (λ q v w. set-reply q s t) (λ q v w. table-reply q s t (v .1) (w .1)) kind o (f .0)
+  pub answer-view : (o : Operation) (s t : List Row) → Fits reduce kind o → WellFormed reduce kind s
+      → WellFormed reduce kind t → view o s ≡ view o t
+      → answer o s ≡ answer o t
+  answer-view o s t f =
+      byKind (λ (k : Kind) (q : Operation). WellFormed reduce k s → WellFormed reduce k t → view q s ≡ view q t
+      → answer q s ≡ answer q t)
+      (λ q v w. stack-answer q s t) (λ q v w. set-answer q s t) (λ q v w. table-answer q s t (v .1) (w .1)) kind o
+      (f .0)
 
   module _ (o p : Operation) where
-    pub view-next : (s t : List Row) → Fits reduce kind o → Fits reduce kind p → WellFormed reduce kind s → WellFormed reduce kind t → view o s ≡ view o t
+    pub view-next : (s t : List Row) → Fits reduce kind o → Fits reduce kind p → WellFormed reduce kind s
+        → WellFormed reduce kind t → view o s ≡ view o t
         → view o (next p s) ≡ view o (next p t)
     view-next s t f g =
         byKinds
-        (λ (k : Kind) (q r : Operation). WellFormed reduce k s → WellFormed reduce k t → view q s ≡ view q t → view q (next r s) ≡ view q (next r t))
-        (λ q r v w. stack-view-next q r s t) (λ q r v w. set-view-next q r s t (v .2) (w .2)) (λ q r v w. table-view-next q r s t (v .1) (w .1)) kind o p
+        (λ (k : Kind) (q r : Operation). WellFormed reduce k s → WellFormed reduce k t → view q s ≡ view q t
+        → view q (next r s) ≡ view q (next r t))
+        (λ q r v w. stack-view-next q r s t) (λ q r v w. set-view-next q r s t (v .2) (w .2))
+        (λ q r v w. table-view-next q r s t (v .1) (w .1)) kind o p
         (f .0) (g .0)
 
-    pub view-recoverable : (s : List Row) → Fits reduce kind o → Fits reduce kind p → WellFormed reduce kind s → recoverable o p ≡ true
+    pub view-recoverable : (s : List Row) → Fits reduce kind o → Fits reduce kind p → WellFormed reduce kind s
+        → recoverable o p ≡ true
         → view o (next p s) ≡ view o s
     view-recoverable s f g =
-        byKinds (λ (k : Kind) (q r : Operation). WellFormed reduce k s → recoverable q r ≡ true → view q (next r s) ≡ view q s)
-        (λ q r v. stack-view-recoverable q r s) (λ q r v. set-view-recoverable q r s (v .2)) (λ q r v. table-view-recoverable q r s (v .1)) kind o p
+        byKinds (λ (k : Kind) (q r : Operation). WellFormed reduce k s → recoverable q r ≡ true
+        → view q (next r s) ≡ view q s)
+        (λ q r v. stack-view-recoverable q r s) (λ q r v. set-view-recoverable q r s (v .2))
+        (λ q r v. table-view-recoverable q r s (v .1)) kind o p
         (f .0) (g .0)
 
-    pub next-commutes : (s : List Row) → Fits reduce kind o → Fits reduce kind p → WellFormed reduce kind s → commutes o p ≡ true
+    pub next-commutes : (s : List Row) → Fits reduce kind o → Fits reduce kind p → WellFormed reduce kind s
+        → commutes o p ≡ true
         → next o (next p s) ≡ next p (next o s)
     next-commutes s f g =
-        byKinds (λ (k : Kind) (q r : Operation). WellFormed reduce k s → commutes q r ≡ true → next q (next r s) ≡ next r (next q s))
-        (λ q r v. stack-commutes q r s) (λ q r v. set-commutes q r s (v .2)) (λ q r v. table-commutes q r s (v .1)) kind o p (f .0) (g .0)
+        byKinds (λ (k : Kind) (q r : Operation). WellFormed reduce k s → commutes q r ≡ true
+        → next q (next r s) ≡ next r (next q s))
+        (λ q r v. stack-commutes q r s) (λ q r v. set-commutes q r s (v .2)) (λ q r v. table-commutes q r s (v .1))
+        kind o p (f .0) (g .0)
 
-    pub recoverable-commutes : Fits reduce kind o → Fits reduce kind p → commutes o p ≡ true → (recoverable o p ≡ true) × (recoverable p o ≡ true)
+    pub recoverable-commutes : Fits reduce kind o → Fits reduce kind p → commutes o p ≡ true
+        → (recoverable o p ≡ true) × (recoverable p o ≡ true)
     recoverable-commutes f g e =
-        let all : (recoverable o p && (recoverable p o && not (rewrites o p))) ≡ true = sym (commuting-mutual o p (g .0 ∙ sym (f .0))) ∙ e in
-        let parts : (recoverable o p ≡ true) × ((recoverable p o && not (rewrites o p)) ≡ true) =
-        and-eq-true-iff (recoverable o p) (recoverable p o && not (rewrites o p)) .0 all in
-        (parts .0, and-eq-true-iff (recoverable p o) (not (rewrites o p)) .0 (parts .1) .0)
+        let h = commuting-mutual o p (g .0 ∙ sym (f .0)) .0 e in
+        (h .0, h .1)
 
   -- A stack, set or table as an object type; `reduce` is the key reduction in force.
   abbrev pub object : ObjectType
@@ -99,9 +118,9 @@ module _ (reduce : ℕ → ℕ) (kind : Kind) where
       record {
         State = List Row;
         Operation = Operation;
-        Reply = Reply;
+        Answer = Answer;
         next = next;
-        reply = reply;
+        answer = answer;
         recoverable = recoverable;
         commutes = commutes;
         Valid = WellFormed reduce kind;
@@ -109,7 +128,7 @@ module _ (reduce : ℕ → ℕ) (kind : Kind) where
         View = View;
         view = view;
         valid-next = valid-next;
-        reply-view = reply-view;
+        answer-view = answer-view;
         view-next = view-next;
         view-recoverable = view-recoverable;
         next-commutes = next-commutes;

@@ -1,4 +1,5 @@
--- Laws of rows with ascending keys: what each change does to the value found at a key, and that ascending rows with the same values are equal.
+-- Laws of rows with ascending keys: what each change does to the value found at a key, and that ascending rows with the
+-- same values are equal.
 use Prim.Native.Nat.{ℕ, _<_, _≤_}
 use mathlib.Core.Path.{_≡_, refl, sym, ap, _∙_}
 use mathlib.Core.Bool.{Bool, true, false, cond}
@@ -9,7 +10,8 @@ use native.Mathlib.Omega.{arith}
 use borrow.Author.Tests.{lt-ltb, le-ltb, eq-eqb, ne-eqb, ltb-true, ltb-false, eqb-true, eqb-false}
 use lib.Dec.{ltb, eqb}
 use lib.ListN.{length, length-map}
-use Rattle.operations.specs.Operations.{Row, row, All, Ascending, byOrder, found, present, inserted, deleted, modified}
+use Rattle.operations.specs.Operations.{Row, row, All, Ascending, byOrder, found, present, inserted, deleted}
+use Rattle.operations.specs.Operations.{modified}
 use Rattle.operations.specs.Laws.Cases.{split, by-key, all-map, all-append}
 
 -- ---- The three cases of an order
@@ -51,7 +53,8 @@ rowsAt k (some v) = row k v ∷ []
 -- the rows with f of the value found at key k in its place, none being no row
 abbrev pub alter : ℕ → (Option ℕ → Option ℕ) → List Row → List Row
 alter k f [] = rowsAt k (f none) ++ []
-alter k f (r ∷ rs) = byOrder (r .key) k (r ∷ alter k f rs) (rowsAt k (f (some (r .value))) ++ rs) (rowsAt k (f none) ++ r ∷ rs)
+alter k f (r ∷ rs) =
+    byOrder (r .key) k (r ∷ alter k f rs) (rowsAt k (f (some (r .value))) ++ rs) (rowsAt k (f none) ++ r ∷ rs)
 
 abbrev pub kept : ℕ → Option ℕ → Option ℕ
 kept v none = some v
@@ -68,10 +71,12 @@ replaced v (some w) = some v
 as-alter : (k : ℕ) (f : Option ℕ → Option ℕ) (F : List Row → List Row) → F [] ≡ rowsAt k (f none) ++ []
     → ((r : Row) (rs : List Row) → r .key < k → F (r ∷ rs) ≡ r ∷ F rs)
     → ((r : Row) (rs : List Row) → r .key ≡ k → F (r ∷ rs) ≡ rowsAt k (f (some (r .value))) ++ rs)
-    → ((r : Row) (rs : List Row) → k < r .key → F (r ∷ rs) ≡ rowsAt k (f none) ++ r ∷ rs) → (rs : List Row) → F rs ≡ alter k f rs
+    → ((r : Row) (rs : List Row) → k < r .key → F (r ∷ rs) ≡ rowsAt k (f none) ++ r ∷ rs) → (rs : List Row)
+    → F rs ≡ alter k f rs
 as-alter k f F z l e g [] = z
 as-alter k f F z l e g (r ∷ rs) =
-    order (r .key) k (λ (h : r .key < k). simp ordered (l r rs h ∙ ap (λ (t : List Row). r ∷ t) (as-alter k f F z l e g rs)))
+    order (r .key) k (λ (h : r .key < k). simp ordered
+    (l r rs h ∙ ap (λ (t : List Row). r ∷ t) (as-alter k f F z l e g rs)))
     (λ (h : r .key ≡ k). simp ordered (e r rs h)) (λ (h : k < r .key). simp ordered (g r rs h))
 
 -- a row is the row of its key and value
@@ -80,13 +85,17 @@ row-at r k rs h = λ i. record { key = h i; value = r .value } ∷ rs
 
 pub inserted-alters : (k v : ℕ) (rs : List Row) → inserted k v rs ≡ alter k (kept v) rs
 inserted-alters k v =
-    as-alter k (kept v) (inserted k v) refl (λ r rs h. simp ordered) (λ r rs h. simp ordered (row-at r k rs h)) (λ r rs h. simp ordered)
+    as-alter k (kept v) (inserted k v) refl (λ r rs h. simp ordered) (λ r rs h. simp ordered (row-at r k rs h))
+    (λ r rs h. simp ordered)
 
 pub deleted-alters : (k : ℕ) (rs : List Row) → deleted k rs ≡ alter k dropped rs
-deleted-alters k = as-alter k dropped (deleted k) refl (λ r rs h. simp ordered) (λ r rs h. simp ordered) (λ r rs h. simp ordered)
+deleted-alters k =
+    as-alter k dropped (deleted k) refl (λ r rs h. simp ordered) (λ r rs h. simp ordered) (λ r rs h. simp ordered)
 
 pub modified-alters : (k v : ℕ) (rs : List Row) → modified k v rs ≡ alter k (replaced v) rs
-modified-alters k v = as-alter k (replaced v) (modified k v) refl (λ r rs h. simp ordered) (λ r rs h. simp ordered) (λ r rs h. simp ordered)
+modified-alters k v =
+    as-alter k (replaced v) (modified k v) refl (λ r rs h. simp ordered) (λ r rs h. simp ordered)
+    (λ r rs h. simp ordered)
 
 pub unchanged-alters : (k : ℕ) (rs : List Row) → rs ≡ alter k (λ x. x) rs
 unchanged-alters k = as-alter k (λ x. x) (λ rs. rs) refl (λ r rs h. refl) (λ r rs h. row-at r k rs h) (λ r rs h. refl)
@@ -109,11 +118,13 @@ found-at : (k : ℕ) (x : Option ℕ) (rs : List Row) → All (Over k) rs → fo
 found-at k none rs b = found-below k rs b
 found-at k (some v) rs b = found-self k v rs
 
-found-apart : (j k : ℕ) (x : Option ℕ) (rs : List Row) → (j ≡ k → ⊥) → All (Over k) rs → found j (rowsAt k x ++ rs) ≡ found j rs
+found-apart : (j k : ℕ) (x : Option ℕ) (rs : List Row) → (j ≡ k → ⊥) → All (Over k) rs
+    → found j (rowsAt k x ++ rs) ≡ found j rs
 found-apart j k none rs n b = refl
 found-apart j k (some v) rs n b =
     order k j (λ (h : k < j). simp ordered) (λ (h : k ≡ j). absurd (n (sym h)))
-    (λ (h : j < k). simp ordered (sym (found-below j rs (all-map {Q = Over j} (λ (q : Row) (i : k < q .key). lt-trans h i) rs b))))
+    (λ (h : j < k). simp ordered (sym (found-below j rs
+    (all-map {Q = Over j} (λ (q : Row) (i : k < q .key). lt-trans h i) rs b))))
 
 pub all-at : (P : Row → Type 0) (k : ℕ) → ((v : ℕ) → P (row k v)) → (x : Option ℕ) → All P (rowsAt k x)
 all-at P k n none = tt
@@ -136,15 +147,18 @@ module _ (k : ℕ) (f : Option ℕ → Option ℕ) where
   alter-apart j (r ∷ rs) n a =
       order (r .key) k
       (λ (h : r .key < k).
-      order (r .key) j (λ (i : r .key < j). simp ordered (alter-apart j rs n (a .1))) (λ (i : r .key ≡ j). simp ordered) (λ (i : j < r .key). simp ordered))
+      order (r .key) j (λ (i : r .key < j). simp ordered (alter-apart j rs n (a .1))) (λ (i : r .key ≡ j). simp ordered)
+      (λ (i : j < r .key). simp ordered))
       (λ (h : r .key ≡ k).
       simp ordered
-      (found-apart j k (f (some (r .value))) rs n (above k r rs a (omega arith)) ∙ sym (found-apart j k (some (r .value)) rs n (above k r rs a (omega arith))) ∙ (rw h)))
+      (found-apart j k (f (some (r .value))) rs n (above k r rs a (omega arith))
+      ∙ sym (found-apart j k (some (r .value)) rs n (above k r rs a (omega arith))) ∙ (rw h)))
       (λ (h : k < r .key). simp ordered (found-apart j k (f none) (r ∷ rs) n (h, above k r rs a (omega arith))))
 
   -- ---- What holds of every row, and the order
 
-  pub alter-all : (P : Row → Type 0) → All P (rowsAt k (f none)) → ((r : Row) → r .key ≡ k → P r → All P (rowsAt k (f (some (r .value))))) → (rs : List Row)
+  pub alter-all : (P : Row → Type 0) → All P (rowsAt k (f none))
+      → ((r : Row) → r .key ≡ k → P r → All P (rowsAt k (f (some (r .value))))) → (rs : List Row)
       → All P rs → All P (alter k f rs)
   alter-all P n s [] a = all-append P (rowsAt k (f none)) [] n tt
   alter-all P n s (r ∷ rs) a =
@@ -158,7 +172,8 @@ module _ (k : ℕ) (f : Option ℕ → Option ℕ) where
       order (r .key) k
       (λ (h : r .key < k).
       simp ordered (
-        alter-all (Over (r .key)) (all-at (Over (r .key)) k (λ v. h) (f none)) (λ q e i. all-at (Over (r .key)) k (λ v. h) (f (some (q .value)))) rs (a .0),
+        alter-all (Over (r .key)) (all-at (Over (r .key)) k (λ v. h) (f none))
+            (λ q e i. all-at (Over (r .key)) k (λ v. h) (f (some (q .value)))) rs (a .0),
         alter-ascending rs (a .1),
       ))
       (λ (h : r .key ≡ k). simp ordered (ascending-at k (f (some (r .value))) rs (above k r rs a (omega arith)) (a .1)))
@@ -169,12 +184,15 @@ module _ (k : ℕ) (f : Option ℕ → Option ℕ) where
 -- the first key of one is in the other, so it is not below the other's first
 not-first : (r q : Row) (s t : List Row) → ((j : ℕ) → found j (r ∷ s) ≡ found j (q ∷ t)) → r .key < q .key → ⊥
 not-first r q s t e h =
-    Option·none-ne-some _ (sym (byOrder-greater (found (r .key) t) (some (q .value)) none h) ∙ sym (e (r .key)) ∙ found-self (r .key) (r .value) s)
+    Option·none-ne-some _ (sym (byOrder-greater (found (r .key) t) (some (q .value)) none h) ∙ sym (e (r .key))
+    ∙ found-self (r .key) (r .value) s)
 
-same-tails : (r q : Row) (s t : List Row) → Ascending (r ∷ s) → Ascending (q ∷ t) → r .key ≡ q .key → ((j : ℕ) → found j (r ∷ s) ≡ found j (q ∷ t))
+same-tails : (r q : Row) (s t : List Row) → Ascending (r ∷ s) → Ascending (q ∷ t) → r .key ≡ q .key
+    → ((j : ℕ) → found j (r ∷ s) ≡ found j (q ∷ t))
     → (j : ℕ) → found j s ≡ found j t
 same-tails r q s t a b k e j =
-    order (r .key) j (λ (h : r .key < j). let g : q .key < j = omega arith in simp ordered at (e j)) (λ (h : r .key ≡ j). none-both (omega arith))
+    order (r .key) j (λ (h : r .key < j). let g : q .key < j = omega arith in simp ordered at (e j))
+    (λ (h : r .key ≡ j). none-both (omega arith))
     (λ (h : j < r .key). none-both (omega arith))
   where
     none-both : j ≤ r .key → found j s ≡ found j t
@@ -188,15 +206,18 @@ same-rows (r ∷ s) (q ∷ t) a b e =
     order (r .key) (q .key) (λ (h : r .key < q .key). absurd (not-first r q s t e h))
     (λ (h : r .key ≡ q .key).
     let v : some (r .value) ≡ some (q .value) =
-    sym (found-self (r .key) (r .value) s) ∙ e (r .key) ∙ ap (λ (j : ℕ). found j (q ∷ t)) h ∙ found-self (q .key) (q .value) t in
+    sym (found-self (r .key) (r .value) s) ∙ e (r .key) ∙ ap (λ (j : ℕ). found j (q ∷ t)) h
+    ∙ found-self (q .key) (q .value) t in
     let w : r .value ≡ q .value = cc in
     λ i. record { key = h i; value = w i } ∷ same-rows s t (a .1) (b .1) (same-tails r q s t a b h e) i)
     (λ (h : q .key < r .key). absurd (not-first q r t s (λ j. sym (e j)) h))
 
 -- changes of different keys can be made in either order
-pub alter-commutes : (j k : ℕ) (f g : Option ℕ → Option ℕ) (rs : List Row) → (j ≡ k → ⊥) → Ascending rs → alter j f (alter k g rs) ≡ alter k g (alter j f rs)
+pub alter-commutes : (j k : ℕ) (f g : Option ℕ → Option ℕ) (rs : List Row) → (j ≡ k → ⊥) → Ascending rs
+    → alter j f (alter k g rs) ≡ alter k g (alter j f rs)
 alter-commutes j k f g rs n a =
-    same-rows (alter j f (alter k g rs)) (alter k g (alter j f rs)) (alter-ascending j f (alter k g rs) b) (alter-ascending k g (alter j f rs) c) same
+    same-rows (alter j f (alter k g rs)) (alter k g (alter j f rs)) (alter-ascending j f (alter k g rs) b)
+    (alter-ascending k g (alter j f rs) c) same
   where
     b : Ascending (alter k g rs)
     b = alter-ascending k g rs a
@@ -205,21 +226,27 @@ alter-commutes j k f g rs n a =
     c = alter-ascending j f rs a
 
     at-j : found j (alter j f (alter k g rs)) ≡ found j (alter k g (alter j f rs))
-    at-j = alter-at j f (alter k g rs) b ∙ ap f (alter-apart k g j rs n a) ∙ sym (alter-at j f rs a) ∙ sym (alter-apart k g j (alter j f rs) n c)
+    at-j =
+        alter-at j f (alter k g rs) b ∙ ap f (alter-apart k g j rs n a) ∙ sym (alter-at j f rs a)
+        ∙ sym (alter-apart k g j (alter j f rs) n c)
 
     at-k : found k (alter j f (alter k g rs)) ≡ found k (alter k g (alter j f rs))
     at-k =
-        alter-apart j f k (alter k g rs) (λ e. n (sym e)) b ∙ alter-at k g rs a ∙ ap g (sym (alter-apart j f k rs (λ e. n (sym e)) a))
+        alter-apart j f k (alter k g rs) (λ e. n (sym e)) b ∙ alter-at k g rs a
+        ∙ ap g (sym (alter-apart j f k rs (λ e. n (sym e)) a))
         ∙ sym (alter-at k g (alter j f rs) c)
 
-    apart : (i : ℕ) → (i ≡ j → ⊥) → (i ≡ k → ⊥) → found i (alter j f (alter k g rs)) ≡ found i (alter k g (alter j f rs))
+    apart : (i : ℕ) → (i ≡ j → ⊥) → (i ≡ k → ⊥) → found i (alter j f (alter k g rs))
+        ≡ found i (alter k g (alter j f rs))
     apart i m l =
-        alter-apart j f i (alter k g rs) m b ∙ alter-apart k g i rs l a ∙ sym (alter-apart j f i rs m a) ∙ sym (alter-apart k g i (alter j f rs) l c)
+        alter-apart j f i (alter k g rs) m b ∙ alter-apart k g i rs l a ∙ sym (alter-apart j f i rs m a)
+        ∙ sym (alter-apart k g i (alter j f rs) l c)
 
     same : (i : ℕ) → found i (alter j f (alter k g rs)) ≡ found i (alter k g (alter j f rs))
     same i =
         by-key (λ (l : ℕ). found l (alter j f (alter k g rs)) ≡ found l (alter k g (alter j f rs))) i j at-j
-        (λ m. by-key (λ (l : ℕ). (l ≡ j → ⊥) → found l (alter j f (alter k g rs)) ≡ found l (alter k g (alter j f rs))) i k (λ m′. at-k) (λ l m′. apart i m′ l) m)
+        (λ m. by-key (λ (l : ℕ). (l ≡ j → ⊥) → found l (alter j f (alter k g rs)) ≡ found l (alter k g (alter j f rs)))
+        i k (λ m′. at-k) (λ l m′. apart i m′ l) m)
 
 -- ---- The keys alone
 
@@ -230,7 +257,8 @@ keys = map (λ r. row (r .key) 0)
 keys-found : (j : ℕ) (rs : List Row) → found j (keys rs) ≡ cond (present j rs) (some 0) none
 keys-found j [] = refl
 keys-found j (r ∷ rs) =
-    order (r .key) j (λ (h : r .key < j). simp ordered (keys-found j rs)) (λ (h : r .key ≡ j). simp ordered) (λ (h : j < r .key). simp ordered)
+    order (r .key) j (λ (h : r .key < j). simp ordered (keys-found j rs)) (λ (h : r .key ≡ j). simp ordered)
+    (λ (h : j < r .key). simp ordered)
 
 keys-ascending : (rs : List Row) → Ascending rs → Ascending (keys rs)
 keys-ascending [] a = tt
@@ -241,7 +269,8 @@ keys-ascending (r ∷ rs) a = (over rs (a .0), keys-ascending rs (a .1))
     over (q ∷ qs) b = (b .0, over qs (b .1))
 
 -- ascending rows with the same keys are equally many
-pub same-length : (s t : List Row) → Ascending s → Ascending t → ((j : ℕ) → present j s ≡ present j t) → length s ≡ length t
+pub same-length : (s t : List Row) → Ascending s → Ascending t → ((j : ℕ) → present j s ≡ present j t)
+    → length s ≡ length t
 same-length s t a b e =
     sym (length-map s (λ r. row (r .key) 0))
     ∙ ap length

@@ -3,11 +3,15 @@ use Prim.Native.Nat.{ℕ, _-_}
 use mathlib.Core.Path.{_≡_, refl, ap}
 use mathlib.Core.Bool.{Bool, true}
 use mathlib.Core.List.{List}
-use Rattle.operations.specs.Operations.{Row, SetOperation, setInsert, setDelete, member, tableInsert, tableDelete, lookup, TableOperation, Operation, onSet, numberOf, keyOf, present, isSome, setNext, tableNext, setReply, flag, All, NoValue, Reduced, KeyReduced, Ascending}
+use Rattle.operations.specs.Operations.{Row, SetOperation, setInsert, setDelete, member, tableInsert, tableDelete}
+use Rattle.operations.specs.Operations.{lookup, TableOperation, Operation, onSet, numberOf, keyOf, present}
+use Rattle.operations.specs.Operations.{isSome, setNext, tableNext, setAnswer, flag, All, NoValue, Reduced}
+use Rattle.operations.specs.Operations.{KeyReduced, Ascending}
 use Rattle.operations.specs.PairRules.{allows, ruleAt, setRecoverable, recoverable, commutes}
 use Rattle.operations.specs.Laws.Cases.{by-key}
 use Rattle.operations.specs.Laws.Rows.{kept, dropped, alter-all, inserted-alters, deleted-alters}
-use Rattle.operations.specs.Laws.Tables.{next-ascending, next-reduced, present-next, found-other, apart-commutes, differ}
+use Rattle.operations.specs.Laws.Tables.{next-ascending, next-reduced, present-next, found-other, apart-commutes}
+use Rattle.operations.specs.Laws.Tables.{differ}
 
 abbrev asTable : SetOperation → TableOperation
 asTable (setInsert k) = tableInsert k 0
@@ -24,7 +28,8 @@ set-values (setInsert k) rs a = rw inserted-alters (alter-all k (kept 0) NoValue
 set-values (setDelete k) rs a = rw deleted-alters (alter-all k dropped NoValue tt (λ r e p. tt) rs a)
 set-values (member k) rs a = a
 
-pub set-reduced : (reduce : ℕ → ℕ) (o : SetOperation) (rs : List Row) → Reduced reduce (keyOf (onSet o)) → All (KeyReduced reduce) rs
+pub set-reduced : (reduce : ℕ → ℕ) (o : SetOperation) (rs : List Row) → Reduced reduce (keyOf (onSet o))
+    → All (KeyReduced reduce) rs
     → All (KeyReduced reduce) (setNext o rs)
 set-reduced reduce (setInsert k) rs red a = next-reduced reduce (tableInsert k 0) rs red a
 set-reduced reduce (setDelete k) rs red a = next-reduced reduce (tableDelete k) rs red a
@@ -43,10 +48,10 @@ setView (setInsert k) rs = tt
 setView (setDelete k) rs = present k rs
 setView (member k) rs = present k rs
 
-pub set-reply : (o : SetOperation) (s t : List Row) → setView o s ≡ setView o t → setReply o s ≡ setReply o t
-set-reply (setInsert k) s t e = refl
-set-reply (setDelete k) s t e = ap flag e
-set-reply (member k) s t e = ap flag e
+pub set-answer : (o : SetOperation) (s t : List Row) → setView o s ≡ setView o t → setAnswer o s ≡ setAnswer o t
+set-answer (setInsert k) s t e = refl
+set-answer (setDelete k) s t e = ap flag e
+set-answer (member k) s t e = ap flag e
 
 present-carried : (p : SetOperation) (k : ℕ) (s t : List Row) → Ascending s → Ascending t → present k s ≡ present k t
     → present k (setNext p s) ≡ present k (setNext p t)
@@ -59,7 +64,8 @@ set-view-next (setDelete k) p s t a b e = present-carried p k s t a b e
 set-view-next (member k) p s t a b e = present-carried p k s t a b e
 
 -- where the rules of delete and member say yes, what is logged keeps the presence of the key
-member-kept : (o : Operation) (p : SetOperation) (rs : List Row) → Ascending rs → allows (ruleAt setRecoverable 1 (numberOf (onSet p) - 4)) o (onSet p) ≡ true
+member-kept : (o : Operation) (p : SetOperation) (rs : List Row) → Ascending rs
+    → allows (ruleAt setRecoverable 1 (numberOf (onSet p) - 4)) o (onSet p) ≡ true
     → present (keyOf o) (setNext p rs) ≡ present (keyOf o) rs
 member-kept o (setInsert k) rs a e = ap isSome (found-other (tableInsert k 0) rs a (keyOf o) (differ (keyOf o) k e))
 member-kept o (setDelete k) rs a e = ap isSome (found-other (tableDelete k) rs a (keyOf o) (differ (keyOf o) k e))
@@ -74,7 +80,8 @@ set-view-recoverable (member k) p rs a e = member-kept (onSet (member k)) p rs a
 pub set-commutes : (o p : SetOperation) (rs : List Row) → Ascending rs → commutes (onSet o) (onSet p) ≡ true
     → setNext o (setNext p rs) ≡ setNext p (setNext o rs)
 set-commutes (setInsert j) (setInsert k) rs a e =
-    by-key (λ (i : ℕ). setNext (setInsert i) (setNext (setInsert k) rs) ≡ setNext (setInsert k) (setNext (setInsert i) rs)) j k refl
+    by-key (λ (i : ℕ). setNext (setInsert i) (setNext (setInsert k) rs)
+    ≡ setNext (setInsert k) (setNext (setInsert i) rs)) j k refl
     (λ n. apart-commutes (tableInsert j 0) (tableInsert k 0) rs n a)
 set-commutes (setInsert j) (setDelete k) rs a e = apart-commutes (tableInsert j 0) (tableDelete k) rs (differ j k e) a
 set-commutes (setInsert j) (member k) rs a e = refl

@@ -1,15 +1,18 @@
 -- Arguments are stored once: what is stored fits, and is read back as it is.
-use Prim.Native.Nat.{ℕ, zero, suc, _<_, _≤_}
+use Prim.Native.Nat.{ℕ, zero, suc, _<_}
 use mathlib.Core.Path.{_≡_, refl, subst}
 use mathlib.Core.Logic.{_↔_}
 use mathlib.Core.Option.{none, some, Option·none-ne-some}
 use mathlib.Core.List.{List, [], _∷_, map}
 use native.Mathlib.Omega.{arith}
 use lib.ListN.{getD}
-use Rattle.operations.specs.PairRules.{firstNumber, lastNumber}
-use Rattle.operations.specs.Operations.{push, pop, top, setInsert, setDelete, member, tableInsert, tableDelete, lookup, size, modify, Operation, onStack, onSet, onTable, kindOf, reduceKey, numbered, stored, numberOf, keyOf, valueOf, All, Reduced, StoredKey}
+use Rattle.operations.specs.Operations.{push, pop, top, setInsert, setDelete, member, tableInsert, tableDelete}
+use Rattle.operations.specs.Operations.{lookup, size, modify, Operation, onStack, onSet, onTable}
+use Rattle.operations.specs.Operations.{reduceKey, numbered, stored, numberOf, keyOf, valueOf, All, Reduced}
+use Rattle.operations.specs.Operations.{StoredKey}
 
-at-place : {A : Type 0} (P : A → Type 0) (l : List A) → All P l → (n : ℕ) (x : A) → getD (map some l) n none ≡ some x → P x
+at-place : {A : Type 0} (P : A → Type 0) (l : List A) → All P l → (n : ℕ) (x : A) → getD (map some l) n none ≡ some x
+    → P x
 at-place P [] a n x e = absurd (Option·none-ne-some _ e)
 at-place P (y ∷ l) a zero x e = let same : y ≡ x = cc in subst P same (a .0)
 at-place P (y ∷ l) a (suc n) x e = at-place P l (a .1) n x e
@@ -17,7 +20,8 @@ at-place P (y ∷ l) a (suc n) x e = at-place P l (a .1) n x e
 -- A reduction that changes nothing the second time, and keeps the key 0 of an operation without one.
 module _ (reduce : ℕ → ℕ) (once : (k : ℕ) → Reduced reduce (reduce k)) (keeps-zero : Reduced reduce 0) where
   all-stored : (k v : ℕ) → All (StoredKey reduce) (numbered reduce k v)
-  all-stored k v = (tt, (tt, (tt, (once k, (once k, (once k, (once k, (once k, (once k, (keeps-zero, (once k, tt)))))))))))
+  all-stored k v =
+      (tt, (tt, (tt, (once k, (once k, (once k, (once k, (once k, (once k, (keeps-zero, (once k, tt)))))))))))
 
   pub stored-reduced : (number k v : ℕ) (o : Operation) → stored reduce number k v ≡ some o → StoredKey reduce o
   stored-reduced zero k v o e = absurd (Option·none-ne-some _ e)
@@ -44,17 +48,3 @@ read-back (onTable (tableDelete k)) = refl
 read-back (onTable (lookup k)) = refl
 read-back (onTable size) = refl
 read-back (onTable (modify k v)) = refl
-
--- An operation's number is one of its kind.
-pub numbers : (o : Operation) → (firstNumber (kindOf o) ≤ numberOf o) × (numberOf o ≤ lastNumber (kindOf o))
-numbers (onStack (push x)) = (omega arith, omega arith)
-numbers (onStack pop) = (omega arith, omega arith)
-numbers (onStack top) = (omega arith, omega arith)
-numbers (onSet (setInsert k)) = (omega arith, omega arith)
-numbers (onSet (setDelete k)) = (omega arith, omega arith)
-numbers (onSet (member k)) = (omega arith, omega arith)
-numbers (onTable (tableInsert k v)) = (omega arith, omega arith)
-numbers (onTable (tableDelete k)) = (omega arith, omega arith)
-numbers (onTable (lookup k)) = (omega arith, omega arith)
-numbers (onTable size) = (omega arith, omega arith)
-numbers (onTable (modify k v)) = (omega arith, omega arith)

@@ -8,8 +8,14 @@ use native.Mathlib.Omega.{arith}
 use borrow.Author.Tests.{eqb-true, not-false}
 use lib.Dec.{eqb}
 use lib.ListN.{length}
-use Rattle.operations.specs.Operations.{Kind, Stack, Set, Table, Row, row, Reply, flag, valued, replied, topItem, StackOperation, push, pop, top, SetOperation, setInsert, setDelete, member, TableOperation, tableInsert, tableDelete, lookup, size, modify, Operation, onStack, onSet, onTable, kindOf, numberOf, keyOf, found, present, stackNext, stackReply, setNext, setReply, tableNext, tableReply, next, reply, WellFormed, Holdable, StoredKey, Fits}
-use Rattle.operations.specs.PairRules.{allows, ruleAt, stackRecoverable, setRecoverable, tableRecoverable, recoverable}
+use Rattle.operations.specs.Operations.{Kind, Stack, Set, Table, Row, row, Answer, flag, valued, answering}
+use Rattle.operations.specs.Operations.{topItem, StackOperation, push, pop, top, SetOperation, setInsert}
+use Rattle.operations.specs.Operations.{setDelete, member, TableOperation, tableInsert, tableDelete, lookup, size}
+use Rattle.operations.specs.Operations.{modify, Operation, onStack, onSet, onTable, kindOf, numberOf, keyOf}
+use Rattle.operations.specs.Operations.{found, present, stackNext, stackAnswer, setNext, setAnswer, tableNext}
+use Rattle.operations.specs.Operations.{tableAnswer, next, answer, WellFormed, Holdable, StoredKey, Fits}
+use Rattle.operations.specs.PairRules.{allows, ruleAt, stackRecoverable, setRecoverable, tableRecoverable}
+use Rattle.operations.specs.PairRules.{recoverable}
 use Rattle.operations.specs.Laws.Rows.{byOrder-equal}
 use Rattle.operations.specs.Laws.Objects.{byKind, byKinds}
 
@@ -60,19 +66,20 @@ module _ (reduce : ℕ → ℕ) where
 
   pub witness-valid : (kind : Kind) (p : Operation) → Fits reduce kind p → WellFormed reduce kind (witness p)
   witness-valid kind p f =
-      byKind (λ (k : Kind) (q : Operation). StoredKey reduce q → WellFormed reduce k (witness q)) (λ q red. stack-witness q) set-witness table-witness kind p
+      byKind (λ (k : Kind) (q : Operation). StoredKey reduce q → WellFormed reduce k (witness q))
+      (λ q red. stack-witness q) set-witness table-witness kind p
       (f .0) (f .1)
 
 -- ---- Each no
 
-abbrev Differ : Reply → Reply → Type 0
+abbrev Differ : Answer → Answer → Type 0
 Differ r s = r ≡ s → ⊥
 
-codes-differ : (r s : Reply) → (r .code ≡ s .code → ⊥) → Differ r s
-codes-differ r s n e = n (ap (λ (q : Reply). q .code) e)
+codes-differ : (r s : Answer) → (r .code ≡ s .code → ⊥) → Differ r s
+codes-differ r s n e = n (ap (λ (q : Answer). q .code) e)
 
-values-differ : (r s : Reply) → (r .value ≡ s .value → ⊥) → Differ r s
-values-differ r s n e = n (ap (λ (q : Reply). q .value) e)
+values-differ : (r s : Answer) → (r .value ≡ s .value → ⊥) → Differ r s
+values-differ r s n e = n (ap (λ (q : Answer). q .value) e)
 
 flags-differ : (b : Bool) → Differ (flag (not b)) (flag b)
 flags-differ true = codes-differ (flag false) (flag true) (omega arith)
@@ -83,14 +90,15 @@ equal : (j k : ℕ) → not (eqb j k) ≡ false → j ≡ k
 equal j k e = eqb-true j k (not-false (eqb j k) e)
 
 -- where the rules of pop and top say no, the witness changes whether there is an item
-stack-differs : (o : Operation) (p : StackOperation) → allows (ruleAt stackRecoverable 1 (numberOf (onStack p) - 1)) o (onStack p) ≡ false
+stack-differs : (o : Operation) (p : StackOperation)
+    → allows (ruleAt stackRecoverable 1 (numberOf (onStack p) - 1)) o (onStack p) ≡ false
     → Differ (valued (topItem (stackNext p (witness (onStack p))))) (valued (topItem (witness (onStack p))))
 stack-differs o (push x) e = codes-differ (valued (some x)) (valued none) (omega arith)
 stack-differs o pop e = codes-differ (valued none) (valued (some 0)) (omega arith)
 stack-differs o top e = absurd (true≢false e)
 
 stack-no : (o p : StackOperation) → recoverable (onStack o) (onStack p) ≡ false
-    → Differ (stackReply o (stackNext p (witness (onStack p)))) (stackReply o (witness (onStack p)))
+    → Differ (stackAnswer o (stackNext p (witness (onStack p)))) (stackAnswer o (witness (onStack p)))
 stack-no (push x) (push y) e = absurd (true≢false e)
 stack-no (push x) pop e = absurd (true≢false e)
 stack-no (push x) top e = absurd (true≢false e)
@@ -98,7 +106,8 @@ stack-no pop p e = stack-differs (onStack pop) p e
 stack-no top p e = stack-differs (onStack top) p e
 
 -- where the rules of insert, delete and modify say no, the witness changes whether the key is present
-present-turns : (o : Operation) (p : TableOperation) → allows (ruleAt tableRecoverable 1 (numberOf (onTable p) - 7)) o (onTable p) ≡ false
+present-turns : (o : Operation) (p : TableOperation)
+    → allows (ruleAt tableRecoverable 1 (numberOf (onTable p) - 7)) o (onTable p) ≡ false
     → present (keyOf o) (tableNext p (witness (onTable p))) ≡ not (present (keyOf o) (witness (onTable p)))
 present-turns o (tableInsert k v) e = rw (equal (keyOf o) k e) (simp byOrder-equal)
 present-turns o (tableDelete k) e = rw (equal (keyOf o) k e) (simp byOrder-equal)
@@ -106,37 +115,49 @@ present-turns o (lookup k) e = absurd (true≢false e)
 present-turns o size e = absurd (true≢false e)
 present-turns o (modify k v) e = absurd (true≢false e)
 
-lookup-differs : (o : Operation) (p : TableOperation) → allows (ruleAt tableRecoverable 2 (numberOf (onTable p) - 7)) o (onTable p) ≡ false
-    → Differ (valued (found (keyOf o) (tableNext p (witness (onTable p))))) (valued (found (keyOf o) (witness (onTable p))))
-lookup-differs o (tableInsert k v) e = rw (equal (keyOf o) k e) (simp byOrder-equal (codes-differ (valued (some v)) (valued none) (omega arith)))
-lookup-differs o (tableDelete k) e = rw (equal (keyOf o) k e) (simp byOrder-equal (codes-differ (valued none) (valued (some 0)) (omega arith)))
+lookup-differs : (o : Operation) (p : TableOperation)
+    → allows (ruleAt tableRecoverable 2 (numberOf (onTable p) - 7)) o (onTable p) ≡ false
+    → Differ (valued (found (keyOf o) (tableNext p (witness (onTable p)))))
+    (valued (found (keyOf o) (witness (onTable p))))
+lookup-differs o (tableInsert k v) e =
+    rw (equal (keyOf o) k e) (simp byOrder-equal (codes-differ (valued (some v)) (valued none) (omega arith)))
+lookup-differs o (tableDelete k) e =
+    rw (equal (keyOf o) k e) (simp byOrder-equal (codes-differ (valued none) (valued (some 0)) (omega arith)))
 lookup-differs o (lookup k) e = absurd (true≢false e)
 lookup-differs o size e = absurd (true≢false e)
-lookup-differs o (modify k v) e = rw (equal (keyOf o) k e) (simp byOrder-equal (values-differ (valued (some v)) (valued (some (1 - v))) (omega arith)))
+lookup-differs o (modify k v) e =
+    rw (equal (keyOf o) k e) (simp byOrder-equal
+    (values-differ (valued (some v)) (valued (some (1 - v))) (omega arith)))
 
-size-differs : (o : Operation) (p : TableOperation) → allows (ruleAt tableRecoverable 3 (numberOf (onTable p) - 7)) o (onTable p) ≡ false
-    → Differ (replied 1 (length (tableNext p (witness (onTable p))))) (replied 1 (length (witness (onTable p))))
-size-differs o (tableInsert k v) e = values-differ (replied 1 1) (replied 1 0) (omega arith)
-size-differs o (tableDelete k) e = simp byOrder-equal (values-differ (replied 1 0) (replied 1 1) (omega arith))
+size-differs : (o : Operation) (p : TableOperation)
+    → allows (ruleAt tableRecoverable 3 (numberOf (onTable p) - 7)) o (onTable p) ≡ false
+    → Differ (answering 1 (length (tableNext p (witness (onTable p))))) (answering 1 (length (witness (onTable p))))
+size-differs o (tableInsert k v) e = values-differ (answering 1 1) (answering 1 0) (omega arith)
+size-differs o (tableDelete k) e = simp byOrder-equal (values-differ (answering 1 0) (answering 1 1) (omega arith))
 size-differs o (lookup k) e = absurd (true≢false e)
 size-differs o size e = absurd (true≢false e)
 size-differs o (modify k v) e = absurd (true≢false e)
 
 table-no : (o p : TableOperation) → recoverable (onTable o) (onTable p) ≡ false
-    → Differ (tableReply o (tableNext p (witness (onTable p)))) (tableReply o (witness (onTable p)))
-table-no (tableInsert k v) p e = rw (present-turns (onTable (tableInsert k v)) p e) (flags-differ (not (present k (witness (onTable p)))))
-table-no (tableDelete k) p e = rw (present-turns (onTable (tableDelete k)) p e) (flags-differ (present k (witness (onTable p))))
+    → Differ (tableAnswer o (tableNext p (witness (onTable p)))) (tableAnswer o (witness (onTable p)))
+table-no (tableInsert k v) p e =
+    rw (present-turns (onTable (tableInsert k v)) p e) (flags-differ (not (present k (witness (onTable p)))))
+table-no (tableDelete k) p e =
+    rw (present-turns (onTable (tableDelete k)) p e) (flags-differ (present k (witness (onTable p))))
 table-no (lookup k) p e = lookup-differs (onTable (lookup k)) p e
 table-no size p e = size-differs (onTable size) p e
-table-no (modify k v) p e = rw (present-turns (onTable (modify k v)) p e) (flags-differ (present k (witness (onTable p))))
+table-no (modify k v) p e =
+    rw (present-turns (onTable (modify k v)) p e) (flags-differ (present k (witness (onTable p))))
 
-member-turns : (o : Operation) (p : SetOperation) → allows (ruleAt setRecoverable 1 (numberOf (onSet p) - 4)) o (onSet p) ≡ false
+member-turns : (o : Operation) (p : SetOperation)
+    → allows (ruleAt setRecoverable 1 (numberOf (onSet p) - 4)) o (onSet p) ≡ false
     → present (keyOf o) (setNext p (witness (onSet p))) ≡ not (present (keyOf o) (witness (onSet p)))
 member-turns o (setInsert k) e = rw (equal (keyOf o) k e) (simp byOrder-equal)
 member-turns o (setDelete k) e = rw (equal (keyOf o) k e) (simp byOrder-equal)
 member-turns o (member k) e = absurd (true≢false e)
 
-set-no : (o p : SetOperation) → recoverable (onSet o) (onSet p) ≡ false → Differ (setReply o (setNext p (witness (onSet p)))) (setReply o (witness (onSet p)))
+set-no : (o p : SetOperation) → recoverable (onSet o) (onSet p) ≡ false
+    → Differ (setAnswer o (setNext p (witness (onSet p)))) (setAnswer o (witness (onSet p)))
 set-no (setInsert k) (setInsert j) e = absurd (true≢false e)
 set-no (setInsert k) (setDelete j) e = absurd (true≢false e)
 set-no (setInsert k) (member j) e = absurd (true≢false e)
@@ -144,6 +165,7 @@ set-no (setDelete k) p e = rw (member-turns (onSet (setDelete k)) p e) (flags-di
 set-no (member k) p e = rw (member-turns (onSet (member k)) p e) (flags-differ (present k (witness (onSet p))))
 
 pub witness-differs : (kind : Kind) (o p : Operation) → kindOf o ≡ kind → kindOf p ≡ kind → recoverable o p ≡ false
-    → Differ (reply o (next p (witness p))) (reply o (witness p))
+    → Differ (answer o (next p (witness p))) (answer o (witness p))
 witness-differs =
-    byKinds (λ (k : Kind) (q r : Operation). recoverable q r ≡ false → Differ (reply q (next r (witness r))) (reply q (witness r))) stack-no set-no table-no
+    byKinds (λ (k : Kind) (q r : Operation). recoverable q r ≡ false
+    → Differ (answer q (next r (witness r))) (answer q (witness r))) stack-no set-no table-no

@@ -7,7 +7,7 @@ use mathlib.Core.Option.{none, some, Option·some-injective, Option·none-ne-som
 use mathlib.Core.List.{List, [], _∷_, _++_}
 use borrow.Author.Tests.{eqb-false, ne-eqb}
 use lib.Dec.{eqb}
-use Rattle.operations.specs.Operations.{Operation, Reply, All}
+use Rattle.operations.specs.Operations.{Operation, Answer, All}
 use Rattle.operations.specs.PairRules.{recoverable}
 use Rattle.operations.specs.Log.{Entry}
 use Rattle.operations.specs.Laws.Cases.{split}
@@ -15,10 +15,10 @@ use Rattle.protocol.specs.Calls.{blocker}
 use Rattle.protocol.specs.Terms.{Earliest, Passes}
 
 module _ (t : ℕ) (requested : Operation) where
-  abbrev lets : Entry Operation Reply → Bool
+  abbrev lets : Entry Operation Answer → Bool
   lets e = eqb (e .transaction) t || recoverable requested (e .operation)
 
-  passes : (e : Entry Operation Reply) → (lets e ≡ true) ↔ Passes t requested e
+  passes : (e : Entry Operation Answer) → (lets e ≡ true) ↔ Passes t requested e
   passes e = (
     λ h other. let own = ne-eqb (e .transaction) t other in rw own at h,
     λ p. split (eqb (e .transaction) t) (λ (own : eqb (e .transaction) t ≡ true). rw own refl)
@@ -29,13 +29,15 @@ module _ (t : ℕ) (requested : Operation) where
   neither true b e = absurd (true≢false e)
   neither false b e = (refl, e)
 
-  passed-by : (e : Entry Operation Reply) (l : List (Entry Operation Reply)) → lets e ≡ true → blocker t requested (e ∷ l) ≡ blocker t requested l
+  passed-by : (e : Entry Operation Answer) (l : List (Entry Operation Answer)) → lets e ≡ true
+      → blocker t requested (e ∷ l) ≡ blocker t requested l
   passed-by e l h = rw h refl
 
-  barred : (e : Entry Operation Reply) (l : List (Entry Operation Reply)) → lets e ≡ false → blocker t requested (e ∷ l) ≡ some (e .transaction)
+  barred : (e : Entry Operation Answer) (l : List (Entry Operation Answer)) → lets e ≡ false
+      → blocker t requested (e ∷ l) ≡ some (e .transaction)
   barred e l h = rw h refl
 
-  pub blocked-none : (l : List (Entry Operation Reply)) → (blocker t requested l ≡ none) ↔ All (Passes t requested) l
+  pub blocked-none : (l : List (Entry Operation Answer)) → (blocker t requested l ≡ none) ↔ All (Passes t requested) l
   blocked-none [] = (λ e. tt, λ a. refl)
   blocked-none (e ∷ l) =
       split (lets e)
@@ -48,12 +50,16 @@ module _ (t : ℕ) (requested : Operation) where
         λ a. absurd (true≢false (sym (passes e .1 (a .0)) ∙ h)),
       ))
 
-  first-bars : (before : List (Entry Operation Reply)) (e : Entry Operation Reply) (after : List (Entry Operation Reply))
-      → All (Passes t requested) before → lets e ≡ false → blocker t requested (before ++ (e ∷ after)) ≡ some (e .transaction)
+  first-bars : (before : List (Entry Operation Answer)) (e : Entry Operation Answer)
+      (after : List (Entry Operation Answer))
+      → All (Passes t requested) before → lets e ≡ false
+      → blocker t requested (before ++ (e ∷ after)) ≡ some (e .transaction)
   first-bars [] e after p h = barred e after h
-  first-bars (x ∷ before) e after p h = passed-by x (before ++ (e ∷ after)) (passes x .1 (p .0)) ∙ first-bars before e after (p .1) h
+  first-bars (x ∷ before) e after p h =
+      passed-by x (before ++ (e ∷ after)) (passes x .1 (p .0)) ∙ first-bars before e after (p .1) h
 
-  earliest : (owner : ℕ) (l : List (Entry Operation Reply)) → blocker t requested l ≡ some owner → Earliest t requested owner l
+  earliest : (owner : ℕ) (l : List (Entry Operation Answer)) → blocker t requested l ≡ some owner
+      → Earliest t requested owner l
   earliest owner [] f = absurd (Option·none-ne-some owner f)
   earliest owner (e ∷ l) f =
       split (lets e)
@@ -63,7 +69,7 @@ module _ (t : ℕ) (requested : Operation) where
         before = e ∷ x .before;
         entry = x .entry;
         after = x .after;
-        parts = ap (λ (m : List (Entry Operation Reply)). e ∷ m) (x .parts);
+        parts = ap (λ (m : List (Entry Operation Answer)). e ∷ m) (x .parts);
         passed = (passes e .0 h, x .passed);
         owned = x .owned;
         other = x .other;
@@ -83,11 +89,13 @@ module _ (t : ℕ) (requested : Operation) where
         unrecoverable = n .1;
       })
 
-  pub blocked-some : (owner : ℕ) (l : List (Entry Operation Reply)) → (blocker t requested l ≡ some owner) ↔ Earliest t requested owner l
+  pub blocked-some : (owner : ℕ) (l : List (Entry Operation Answer))
+      → (blocker t requested l ≡ some owner) ↔ Earliest t requested owner l
   blocked-some owner l = (
     earliest owner l,
     λ x. let apart = ne-eqb (x .entry .transaction) t (λ q. x .other (sym (x .owned) ∙ q)) in
         let u = x .unrecoverable in
         let h : lets (x .entry) ≡ false = rw (apart, u) refl in
-        ap (blocker t requested) (x .parts) ∙ first-bars (x .before) (x .entry) (x .after) (x .passed) h ∙ ap some (x .owned),
+        ap (blocker t requested) (x .parts) ∙ first-bars (x .before) (x .entry) (x .after) (x .passed) h
+        ∙ ap some (x .owned),
   )

@@ -1,4 +1,5 @@
--- Who commits once a transaction has ended, those from whom no way of dependencies leads to an active one, and what the commits leave.
+-- Who commits once a transaction has ended, those from whom no way of dependencies leads to an active one, and what the
+-- commits leave.
 use Prim.Native.Nat.{ℕ, zero, suc}
 use mathlib.Core.Path.{_≡_, refl, sym, ap, _∙_, subst}
 use mathlib.Core.Bool.{true, false}
@@ -9,8 +10,9 @@ use native.Mathlib.Nat.{le-refl}
 use borrow.Author.Tests.{eq-eqb, ne-eqb}
 use lib.Dec.{eqb}
 use lib.ListN.{getD}
-use Rattle.operations.specs.Operations.{Kind, Row, Operation, Reply, reduceKey}
-use Rattle.operations.specs.Log.{ObjectType, Entry, Log, only, one, others, after}
+use Rattle.operations.specs.Operations.{Kind, Row, Operation, Answer, reduceKey, next}
+use Rattle.operations.specs.Log.{Entry, only, one, others, after}
+use Rattle.operations.specs.Laws.ObjectTypes.{ObjectType, Log}
 use Rattle.operations.specs.Laws.Cases.{same, split}
 use Rattle.operations.specs.Laws.Objects.{object}
 use Rattle.store.specs.Store.{Logged, Store, Active, PseudoCommitted, Object, noObject, objectOf, onObject}
@@ -25,7 +27,8 @@ use Rattle.store.specs.Laws.Changes.{on-picked}
 use Rattle.protocol.specs.Ending.{ended, commit, Settlement, settlement, committedFirst, settledAll}
 use Rattle.protocol.specs.Terms.{LowestReady, Among, Distinct, inOrder, withoutAll}
 use Rattle.protocol.specs.Laws.Ranks.{SameOrder, order-itself, ended-order}
-use Rattle.protocol.specs.Laws.Ending.{Left, ended-left, commit-left, commit-order, depends-left, ended-objects, commit-rows}
+use Rattle.protocol.specs.Laws.Ending.{Left, ended-left, commit-left, commit-order, depends-left, ended-objects}
+use Rattle.protocol.specs.Laws.Ending.{commit-rows}
 use Rattle.protocol.specs.Laws.Settling.{all-settle, settled-kept}
 use Rattle.protocol.specs.Laws.Protocol.{ready-leads-nowhere}
 
@@ -33,9 +36,11 @@ use Rattle.protocol.specs.Laws.Protocol.{ready-leads-nowhere}
 
 module _ (s : Store) (t : ℕ) (x : Store) (l : Left s t x) where
   -- A way that does not end at one that depends on nobody does not come by it.
-  way-left : Ready (s .log) t → (v : ℕ) → (v ≡ t → ⊥) → (n a : ℕ) → Way (DependsOn (s .log)) Anyone n a v → Way (DependsOn (x .log)) Anyone n a v
+  way-left : Ready (s .log) t → (v : ℕ) → (v ≡ t → ⊥) → (n a : ℕ) → Way (DependsOn (s .log)) Anyone n a v
+      → Way (DependsOn (x .log)) Anyone n a v
   way-left ready v other zero a w = w
-  way-left ready v other (suc n) a (inl d) = inl (depends-left s t x l a v .1 (d, λ e. ready v (subst (λ (y : ℕ). DependsOn (s .log) y v) e d), other))
+  way-left ready v other (suc n) a (inl d) =
+      inl (depends-left s t x l a v .1 (d, λ e. ready v (subst (λ (y : ℕ). DependsOn (s .log) y v) e d), other))
   way-left ready v other (suc n) a (inr (c, p, d, w)) =
       inr (
         c,
@@ -43,7 +48,8 @@ module _ (s : Store) (t : ℕ) (x : Store) (l : Left s t x) where
         depends-left s t x l a c .1 (
           d,
           λ e. ready c (subst (λ (y : ℕ). DependsOn (s .log) y c) e d),
-          λ e. ready-leads-nowhere (s .log) Anyone n t v ready (subst (λ (y : ℕ). Way (DependsOn (s .log)) Anyone n y v) e w),
+          λ e. ready-leads-nowhere (s .log) Anyone n t v ready
+              (subst (λ (y : ℕ). Way (DependsOn (s .log)) Anyone n y v) e w),
         ),
         way-left ready v other n c w,
       )
@@ -51,14 +57,16 @@ module _ (s : Store) (t : ℕ) (x : Store) (l : Left s t x) where
 -- ---- Entries of some transactions
 
 abbrev Entries : Type 0
-Entries = List (Entry Operation Reply)
+Entries = List (Entry Operation Answer)
 
 in-order-append : (ts us : List ℕ) (l : Entries) → inOrder (ts ++ us) l ≡ inOrder ts l ++ inOrder us l
 in-order-append [] us l = refl
 in-order-append (t ∷ ts) us l =
-    ap (λ (m : Entries). only (one t) l ++ m) (in-order-append ts us l) ∙ sym (append-assoc (only (one t) l) (inOrder ts l) (inOrder us l))
+    ap (λ (m : Entries). only (one t) l ++ m) (in-order-append ts us l)
+    ∙ sym (append-assoc (only (one t) l) (inOrder ts l) (inOrder us l))
 
-after-append : (X : ObjectType) (l m : Log X) (s : X .State) → after X (l ++ m) s ≡ after X m (after X l s)
+after-append : (X : ObjectType) (l m : Log X) (s : X .State)
+    → after (X .next) (l ++ m) s ≡ after (X .next) m (after (X .next) l s)
 after-append X [] m s = refl
 after-append X (e ∷ l) m s = after-append X l m (X .next (e .operation) s)
 
@@ -72,10 +80,12 @@ module _ (t : ℕ) where
       rw (eq-eqb (e .transaction) t own, ne-eqb (e .transaction) u (λ q. other (sym q ∙ own))) (only-apart u other l))
       (λ (apart : e .transaction ≡ t → ⊥).
       split (eqb (e .transaction) u)
-      (λ (b : eqb (e .transaction) u ≡ true). rw (ne-eqb (e .transaction) t apart, b) (ap (λ (m : Entries). e ∷ m) (only-apart u other l)))
+      (λ (b : eqb (e .transaction) u ≡ true). rw (ne-eqb (e .transaction) t apart, b)
+      (ap (λ (m : Entries). e ∷ m) (only-apart u other l)))
       (λ (b : eqb (e .transaction) u ≡ false). rw (ne-eqb (e .transaction) t apart, b) (only-apart u other l)))
 
-  in-order-apart : (ts : List ℕ) → (Among t ts → ⊥) → (l : Entries) → inOrder ts (only (others (one t)) l) ≡ inOrder ts l
+  in-order-apart : (ts : List ℕ) → (Among t ts → ⊥) → (l : Entries)
+      → inOrder ts (only (others (one t)) l) ≡ inOrder ts l
   in-order-apart [] n l = refl
   in-order-apart (u ∷ ts) n l = rw (only-apart u (λ e. n (inl e)) l, in-order-apart ts (λ a. n (inr a)) l)
 
@@ -92,7 +102,7 @@ pub record Ends (s : Store) (t : ℕ) (own : List ℕ) (x : Store) : Type 0 wher
   pub left : Left s t x
   pub order : SameOrder s x
   pub rows : (o : ℕ) (kind : Kind) → objectOf s o .kind ≡ some kind
-      → objectOf x o .rows ≡ after (object reduceKey kind) (inOrder own (onObject o (s .log))) (objectOf s o .rows)
+      → objectOf x o .rows ≡ after next (inOrder own (onObject o (s .log))) (objectOf s o .rows)
 
 module _ (s : Store) (t : ℕ) (h : Unsettled base s) where
   pub aborts : Ends s t [] (ended t s)
@@ -110,12 +120,14 @@ module _ (s : Store) (t : ℕ) (h : Unsettled base s) where
         order = commit-order s t (h .once);
         rows =
             λ o kind k. commit-rows s t kind o (kind-within s o kind k)
-            ∙ ap (λ (l : Entries). after (object reduceKey kind) l (objectOf s o .rows)) (sym (append-nil (only (one t) (onObject o (s .log)))));
+            ∙ ap (λ (l : Entries). after next l (objectOf s o .rows))
+            (sym (append-nil (only (one t) (onObject o (s .log)))));
       }
 
 -- ---- The commits of one call
 
--- What some commits of pseudo-committed transactions leave of a store: they carry the entries of those that committed, and no others.
+-- What some commits of pseudo-committed transactions leave of a store: they carry the entries of those that committed,
+-- and no others.
 pub record Settles (s : Store) (r : Settlement) : Type 0 where
   pub only : (u : ℕ) → Among u (r .committed) → PseudoCommitted s u
   pub kept : (u : ℕ) → PseudoCommitted s u → Among u (r .committed) ⊎ PseudoCommitted (r .store) u
@@ -127,7 +139,8 @@ pub record Settles (s : Store) (r : Settlement) : Type 0 where
   pub order : SameOrder s (r .store)
   pub kinds : (o : ℕ) → objectOf (r .store) o .kind ≡ objectOf s o .kind
   pub rows : (o : ℕ) (kind : Kind) → objectOf s o .kind ≡ some kind
-      → objectOf (r .store) o .rows ≡ after (object reduceKey kind) (inOrder (r .committed) (onObject o (s .log))) (objectOf s o .rows)
+      → objectOf (r .store) o .rows
+      ≡ after next (inOrder (r .committed) (onObject o (s .log))) (objectOf s o .rows)
   pub log : r .store .log ≡ withoutAll (r .committed) (s .log)
 
 none-commit : (s : Store) → Settles s (settlement s [])
@@ -156,28 +169,32 @@ module _ (s : Store) (t : ℕ) (own : List ℕ) (x : Store) (e : Ends s t own x)
   order-on u v p q i j before-u before-v after-u after-v =
       let a = h .gone u (i, after-u) .0 in
       let b = h .gone v (j, after-v) .0 in
-      Iff·trans (h .order u v (a .0) (b .0) i j (a .1) (b .1) after-u after-v) (e .order u v p q (a .0) (b .0) before-u before-v (a .1) (b .1))
+      Iff·trans (h .order u v (a .0) (b .0) i j (a .1) (b .1) after-u after-v)
+      (e .order u v p q (a .0) (b .0) before-u before-v (a .1) (b .1))
 
   pub kinds-on : (o : ℕ) → objectOf (r .store) o .kind ≡ objectOf s o .kind
   kinds-on o = h .kinds o ∙ e .left .kinds o
 
   pub rows-on : (o : ℕ) (kind : Kind) → objectOf s o .kind ≡ some kind
-      → objectOf (r .store) o .rows ≡ after (object reduceKey kind) (inOrder (own ++ r .committed) (onObject o (s .log))) (objectOf s o .rows)
+      → objectOf (r .store) o .rows
+      ≡ after next (inOrder (own ++ r .committed) (onObject o (s .log))) (objectOf s o .rows)
   rows-on o kind k =
       let X = object reduceKey kind in
       let l = onObject o (s .log) in
       let later = inOrder (r .committed) l in
       let left = ap (onObject o) (e .left .log) ∙ on-picked (others (one t)) o (s .log) in
       h .rows o kind (e .left .kinds o ∙ k)
-      ∙ ap (λ (m : Entries). after X m (objectOf x o .rows)) (ap (inOrder (r .committed)) left ∙ in-order-apart t (r .committed) over l)
-      ∙ ap (λ (m : List Row). after X later m) (e .rows o kind k)
+      ∙ ap (λ (m : Entries). after (X .next) m (objectOf x o .rows))
+      (ap (inOrder (r .committed)) left ∙ in-order-apart t (r .committed) over l)
+      ∙ ap (λ (m : List Row). after (X .next) later m) (e .rows o kind k)
       ∙ sym (after-append X (inOrder own l) later (objectOf s o .rows))
-      ∙ ap (λ (m : Entries). after X m (objectOf s o .rows)) (sym (in-order-append own (r .committed) l))
+      ∙ ap (λ (m : Entries). after (X .next) m (objectOf s o .rows)) (sym (in-order-append own (r .committed) l))
 
   pub log-on : r .store .log ≡ withoutAll (r .committed) (without t (s .log))
   log-on = h .log ∙ ap (withoutAll (r .committed)) (e .left .log)
 
-module _ (s : Store) (t : ℕ) (e : Ends s t (t ∷ []) (commit t s)) (w : LowestReady s t) (r : Settlement) (h : Settles (commit t s) r) where
+module _ (s : Store) (t : ℕ) (e : Ends s t (t ∷ []) (commit t s)) (w : LowestReady s t) (r : Settlement)
+    (h : Settles (commit t s) r) where
   abbrev left : Left s t (commit t s)
   left = e .left
 
@@ -187,7 +204,8 @@ module _ (s : Store) (t : ℕ) (e : Ends s t (t ∷ []) (commit t s)) (w : Lowes
   one-commits : Settles s (committedFirst t r)
   one-commits =
       record {
-        only = λ u. ⊎-elim (λ q. subst (PseudoCommitted s) q (w .rank, w .ranked)) (λ a. left .pseudoCommitted u .0 (h .only u a) .1);
+        only = λ u. ⊎-elim (λ q. subst (PseudoCommitted s) q (w .rank, w .ranked))
+            (λ a. left .pseudoCommitted u .0 (h .only u a) .1);
         kept =
             λ u q. same u t (λ (f : u ≡ t). inl (inl (sym f)))
             (λ (other : u ≡ t → ⊥). ⊎-elim (λ a. inl (inr a)) inr (h .kept u (left .pseudoCommitted u .1 (other, q))));
@@ -195,10 +213,14 @@ module _ (s : Store) (t : ℕ) (e : Ends s t (t ∷ []) (commit t s)) (w : Lowes
             λ u q. let g = h .gone u q in
             let b = left .pseudoCommitted u .0 (g .0) in
             (b .1, ⊎-elim (λ f. b .0 (sym f)) (g .1));
-        active = λ u. (λ a. left .active u .0 (h .active u .0 a) .1, λ a. h .active u .1 (left .active u .1 (inactive u a, a)));
+        active = λ u. (
+          λ a. left .active u .0 (h .active u .0 a) .1,
+          λ a. h .active u .1 (left .active u .1 (inactive u a, a)),
+        );
         depends = λ a b d. depends-left s t (commit t s) left a b .0 (h .depends a b d) .0;
         apart =
-            λ u. ⊎-elim (λ q way. ready-leads-nowhere (s .log) Anyone (way .2 .0) u (way .0) (subst (Ready (s .log)) q (w .ready)) (way .2 .1))
+            λ u. ⊎-elim (λ q way. ready-leads-nowhere (s .log) Anyone (way .2 .0) u (way .0)
+            (subst (Ready (s .log)) q (w .ready)) (way .2 .1))
             (λ a way. let other = inactive (way .0) (way .1) in
             h .apart u a (
               way .0,
@@ -237,7 +259,8 @@ module _ (s : Store) (r : Representable base s) (h : Unsettled base s) where
             all-commits .active (w .0) .0 (w .1),
             (
               w .2 .0,
-              way-monotone (DependsOn (settledAll s .store .log)) (DependsOn (s .log)) Anyone Anyone (all-commits .depends) (λ c y. y) (w .2 .0) (w .2 .0)
+              way-monotone (DependsOn (settledAll s .store .log)) (DependsOn (s .log)) Anyone Anyone
+                  (all-commits .depends) (λ c y. y) (w .2 .0) (w .2 .0)
                   (le-refl (w .2 .0)) u (w .0) (w .2 .1),
             ),
           ))

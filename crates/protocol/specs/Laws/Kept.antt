@@ -13,27 +13,34 @@ use Rattle.store.specs.Theorems.{representable, decoded, packed}
 use Rattle.store.specs.Laws.Changes.{representable-status, representable-appended}
 use Rattle.protocol.specs.Replies.{ok, counted, cancelled, outcome, Served, served}
 use Rattle.protocol.specs.Ending.{ended, commit, settledAll}
-use Rattle.protocol.specs.Calls.{unless, empty, blocker, request, answerTo, entered, respond, concluded, finishActive, setUpReason, setUp, beginReason, begin, operateReason, operate, endReason, finish, cancel, contentsReason, contents}
+use Rattle.protocol.specs.Calls.{unless, empty, blocker, request, answerTo, entered, respond, concluded}
+use Rattle.protocol.specs.Calls.{finishActive, setUpReason, setUp, beginReason, begin, operateReason, operate}
+use Rattle.protocol.specs.Calls.{endReason, finish, cancel, contentsReason, contents}
 use Rattle.protocol.specs.Call as calling
 use Rattle.protocol.specs.Terms.{OperateAccepted}
-use Rattle.protocol.specs.Laws.Ending.{ended-representable, ended-unsettled, commit-representable, commit-unsettled}
+use Rattle.protocol.specs.Laws.Ending.{ended-representable, ended-unsettled, commit-representable}
+use Rattle.protocol.specs.Laws.Ending.{commit-unsettled}
 use Rattle.protocol.specs.Laws.Settling.{settled-kept}
 use Rattle.protocol.specs.Laws.Keeping.{emptied-sound, begun-sound, entered-sound, pseudo-committed-sound}
 use Rattle.protocol.specs.Laws.Protocol.{finish-by}
-use Rattle.protocol.specs.Laws.Reasons.{request-reduced, set-up-accepted, begin-accepted, operate-accepted, end-accepted}
+use Rattle.protocol.specs.Laws.Reasons.{request-reduced, set-up-accepted, begin-accepted, operate-accepted}
+use Rattle.protocol.specs.Laws.Reasons.{end-accepted}
 
 -- A sound store, written as words.
 encoded-sound : (s : Store) → Representable base s → SoundStore base s → Sound base (encode base s)
 encoded-sound s r h = record { packed = packed s r; store = subst (SoundStore base) (sym (decoded s r)) h }
 
 -- What holds of the book holds still, if it does where no reason applies.
-unless-kept : (P : List ℕ → Type 0) (n : ℕ) (w list : List ℕ) (s : Served) → P w → (n ≡ 0 → P (s .book)) → P (unless n w list s .book)
+unless-kept : (P : List ℕ → Type 0) (n : ℕ) (w list : List ℕ) (s : Served) → P w → (n ≡ 0 → P (s .book))
+    → P (unless n w list s .book)
 unless-kept P zero w list s p accepted = accepted refl
 unless-kept P (suc n) w list s p accepted = p
 
 -- What set up writes, whatever was there before.
 pub empty-encoded : (w kinds : List ℕ) → setUpReason base w kinds ≡ 0 → Sound base (encode base (empty kinds))
-empty-encoded w kinds e = let sound = emptied-sound kinds (set-up-accepted base w kinds e .sixteen) in encoded-sound (empty kinds) (sound .1) (sound .0)
+empty-encoded w kinds e =
+    let sound = emptied-sound kinds (set-up-accepted base w kinds e .sixteen) in
+    encoded-sound (empty kinds) (sound .1) (sound .0)
 
 module _ (w : List ℕ) (h : Sound base w) where
   abbrev s : Store
@@ -45,13 +52,15 @@ module _ (w : List ℕ) (h : Sound base w) where
   set-up-kept : (kinds : List ℕ) → Sound base (setUp base w kinds .book)
   unfolding setUp
   set-up-kept kinds =
-      unless-kept (Sound base) (setUpReason base w kinds) w [] (served (encode base (empty kinds)) (outcome ok [] [])) h (empty-encoded w kinds)
+      unless-kept (Sound base) (setUpReason base w kinds) w [] (served (encode base (empty kinds)) (outcome ok [] [])) h
+      (empty-encoded w kinds)
 
   module _ (whetherSound : (w : List ℕ) → Dec (Sound base w)) where
     begin-kept : (t : ℕ) → Sound base (begin base whetherSound w t .book)
     unfolding begin
     begin-kept t =
-        unless-kept (Sound base) (beginReason base whetherSound w t) w [] (served (encode base (withStatus t active s)) (outcome ok [] [])) h
+        unless-kept (Sound base) (beginReason base whetherSound w t) w []
+        (served (encode base (withStatus t active s)) (outcome ok [] [])) h
         (λ e.
         encoded-sound (withStatus t active s) (representable-status s fits t active)
         (begun-sound s t (h .store) (begin-accepted base whetherSound w t e .new)))
@@ -63,25 +72,32 @@ module _ (w : List ℕ) (h : Sound base w) where
       abbrev waitedFor : Option ℕ
       waitedFor = blocker t requested (onObject o (s .log))
 
-      responded : (owner : Option ℕ) → waitedFor ≡ owner → OperateAccepted base w t o number k v → Sound base (respond base w t o requested owner .book)
+      responded : (owner : Option ℕ) → waitedFor ≡ owner → OperateAccepted base w t o number k v
+          → Sound base (respond base w t o requested owner .book)
       responded (some owner) e a = h
       responded none e a =
-          encoded-sound (entered base t o requested s)
+          encoded-sound (entered t o requested s)
           (representable-appended s fits
-          (record { object = o; entry = record { transaction = t; operation = requested; answer = answerTo base requested s o } }) (a .entries))
+          (record {
+            object = o;
+            entry = record { transaction = t; operation = requested; answer = answerTo requested s o };
+          })
+          (a .entries))
           (entered-sound s t o requested (h .store) (a .active) (a .kind) (request-reduced number k v) (a .room) e)
 
       operate-kept : Sound base (operate base whetherSound w t o number k v .book)
       unfolding operate
       operate-kept =
-          unless-kept (Sound base) (operateReason base whetherSound w t o number k v) w [] (respond base w t o requested waitedFor) h
+          unless-kept (Sound base) (operateReason base whetherSound w t o number k v) w []
+          (respond base w t o requested waitedFor) h
           (λ e. responded waitedFor refl (operate-accepted base whetherSound w t o number k v e))
 
     contents-kept : (o : ℕ) → Sound base (contents base whetherSound w o .book)
     unfolding contents
     contents-kept o =
         unless-kept (Sound base) (contentsReason base whetherSound w o) w []
-        (served w (outcome (counted (length (objectOf s o .rows))) [] (joined rowWords (objectOf s o .rows)))) h (λ e. h)
+        (served w (outcome (counted (length (objectOf s o .rows))) [] (joined rowWords (objectOf s o .rows)))) h
+        (λ e. h)
 
 -- ---- Finish and cancel
 
@@ -95,17 +111,21 @@ module _ (s : Store) (t : ℕ) (r : Representable base s) (h : SoundStore base s
   finished-sound : Active s t → (list : List ℕ) → Sound base (finishActive base s t list .book)
   finished-sound is-active list =
       finish-by s t list (λ (r : Served). Sound base (r .book)) (λ c. ended-encoded)
-      (λ c. settled-encoded (commit t s) (commit-representable s t r (h .unsettled)) (commit-unsettled s t (h .unsettled) (c .1)))
+      (λ c. settled-encoded (commit t s) (commit-representable s t r (h .unsettled))
+      (commit-unsettled s t (h .unsettled) (c .1)))
       (λ c.
-      encoded-sound (withStatus t (pseudoCommitted (pseudoCommittedCount s)) s) (representable-status s r t (pseudoCommitted (pseudoCommittedCount s)))
+      encoded-sound (withStatus t (pseudoCommitted (pseudoCommittedCount s)) s)
+      (representable-status s r t (pseudoCommitted (pseudoCommittedCount s)))
       (pseudo-committed-sound s t r h is-active (c .0) (c .1)))
 
 module _ (w : List ℕ) (h : Sound base w) (whetherSound : (w : List ℕ) → Dec (Sound base w)) where
   finish-kept : (t : ℕ) (list : List ℕ) → Sound base (finish base whetherSound w t list .book)
   unfolding finish
   finish-kept t list =
-      unless-kept (Sound base) (endReason base whetherSound w t list) w list (finishActive base (decode base w) t list) h
-      (λ e. finished-sound (decode base w) t (fits w h) (h .store) (end-accepted base whetherSound w t list e .active) list)
+      unless-kept (Sound base) (endReason base whetherSound w t list) w list (finishActive base (decode base w) t list)
+      h
+      (λ e. finished-sound (decode base w) t (fits w h) (h .store) (end-accepted base whetherSound w t list e .active)
+      list)
 
   cancel-kept : (t : ℕ) (list : List ℕ) → Sound base (cancel base whetherSound w t list .book)
   unfolding cancel

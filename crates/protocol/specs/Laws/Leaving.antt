@@ -1,12 +1,13 @@
 -- What a refused call leaves, and what set up, begin and contents leave where no reason applies.
-use Prim.Native.Nat.{ℕ, zero, suc, _+_, _-_, _*_}
+use Prim.Native.Nat.{ℕ, zero, suc, _+_, _-_, _*_, _<_}
 use mathlib.Core.Path.{_≡_, refl, sym, ap, _∙_, subst}
 use mathlib.Core.Logic.{_↔_}
 use mathlib.Core.Option.{Option, none, some}
 use mathlib.Core.List.{List, []}
 use native.Mathlib.Omega.{arith}
-use lib.ListN.{length, take, drop}
+use lib.ListN.{length, set, take, drop}
 use Rattle.operations.specs.Operations.{Row, Operation}
+use Rattle.operations.specs.Laws.Cases.{same}
 use Rattle.store.specs.Store.{active, Store, objectOf, onObject}
 use Rattle.store.specs.Layout.{encode, decode, objectStart, joined, rowWords, Representable, base}
 use Rattle.store.specs.Decisions.{whetherSound}
@@ -14,17 +15,19 @@ use Rattle.store.specs.Steps.{withStatus}
 use Rattle.store.specs.Theorems.{decoded}
 use Rattle.store.specs.Laws.Reading.{kind-below}
 use Rattle.store.specs.Laws.Rows.{rows-counted, rows-part}
-use Rattle.protocol.specs.Replies.{Response, ok, counted, refused, outcome, Served, served}
-use Rattle.protocol.specs.Calls.{unless, empty, request, blocker, respond, finishActive, setUpReason, setUp, beginReason, begin, operate, finish, cancel, contentsReason, contents}
+use Rattle.store.specs.Laws.Writing.{status-put}
+use Rattle.protocol.specs.Replies.{Reply, ok, counted, refused, outcome, Served, served}
+use Rattle.protocol.specs.Calls.{unless, empty, request, blocker, respond, finishActive, setUpReason, setUp}
+use Rattle.protocol.specs.Calls.{beginReason, begin, operate, finish, cancel, contentsReason, contents}
 use Rattle.protocol.specs.Call as calling
 use Rattle.protocol.specs.Call.{Call, desk, reasonOf, listOf}
-use Rattle.protocol.specs.Laws.Reasons.{unless-refused, unless-accepted, contents-accepted}
+use Rattle.protocol.specs.Laws.Reasons.{unless-refused, unless-accepted, begin-accepted, contents-accepted}
 use Rattle.protocol.specs.Laws.Protocol.{clash, finish-by}
 
 -- ---- Refused
 
 -- A reply that refuses nothing.
-abbrev Serves : Response → Type 0
+abbrev Serves : Reply → Type 0
 Serves r = (n : ℕ) → r ≡ refused n → ⊥
 
 -- A call is served unless its reason applies.
@@ -33,13 +36,15 @@ pub record Guarded (reason : ℕ) (w list : List ℕ) (r : Served) : Type 0 wher
   guarded : r ≡ unless reason w list otherwise
   serves : Serves (otherwise .outcome .reply)
 
-responds : (w : List ℕ) (t o : ℕ) (requested : Operation) (b : Option ℕ) → Serves (respond base w t o requested b .outcome .reply)
+responds : (w : List ℕ) (t o : ℕ) (requested : Operation) (b : Option ℕ)
+    → Serves (respond base w t o requested b .outcome .reply)
 responds w t o requested none n e = clash cc
 responds w t o requested (some owner) n e = clash cc
 
 finishes : (s : Store) (t : ℕ) (list : List ℕ) → Serves (finishActive base s t list .outcome .reply)
 finishes s t list =
-    finish-by s t list (λ (r : Served). Serves (r .outcome .reply)) (λ c n e. clash cc) (λ c n e. clash cc) (λ c n e. clash cc)
+    finish-by s t list (λ (r : Served). Serves (r .outcome .reply))
+    (λ c n e. clash cc) (λ c n e. clash cc) (λ c n e. clash cc)
 
 pub guard : (call : Call) (w : List ℕ) → Guarded (reasonOf call w) w (listOf call) (desk call w)
 unfolding setUp begin operate finish cancel contents
@@ -47,7 +52,11 @@ guard (calling.setUp kinds) w = record { otherwise = _; guarded = refl; serves =
 guard (calling.begin t) w = record { otherwise = _; guarded = refl; serves = λ n e. clash cc }
 guard (calling.operate t o number k v) w =
     let requested = request base number k v in
-    record { otherwise = _; guarded = refl; serves = responds w t o requested (blocker t requested (onObject o (decode base w .log))) }
+    record {
+      otherwise = _;
+      guarded = refl;
+      serves = responds w t o requested (blocker t requested (onObject o (decode base w .log)));
+    }
 guard (calling.finish t list) w = record { otherwise = _; guarded = refl; serves = finishes (decode base w) t list }
 guard (calling.cancel t list) w = record { otherwise = _; guarded = refl; serves = λ n e. clash cc }
 guard (calling.contents o) w = record { otherwise = _; guarded = refl; serves = λ n e. clash cc }
@@ -71,39 +80,75 @@ module _ (reason : ℕ) (w list : List ℕ) (r : Served) (g : Guarded reason w l
   pub untouched-by : r .outcome .reply ≡ refused n → (r .book ≡ w) × (r .outcome .list ≡ list) × (r .outcome .rows ≡ [])
   untouched-by e =
       let h = refused-by .0 e in
-      let so = g .guarded ∙ unless-refused reason w list (g .otherwise) (λ z. h .1 (sym (h .0) ∙ z)) in
-      (ap (λ (x : Served). x .book) so, ap (λ (x : Served). x .outcome .list) so, ap (λ (x : Served). x .outcome .rows) so)
+      let so = g .guarded ∙ unless-refused reason w list (g .otherwise) (λ z. h .1 (sym (h .0) ∙ z)) in (
+        ap (λ (x : Served). x .book) so,
+        ap (λ (x : Served). x .outcome .list) so,
+        ap (λ (x : Served). x .outcome .rows) so,
+      )
 
 -- ---- Set up, begin and contents, where no reason applies
 
-pub set-up-served : (w kinds : List ℕ) → setUpReason base w kinds ≡ 0 → setUp base w kinds ≡ served (encode base (empty kinds)) (outcome ok [] [])
+pub set-up-served : (w kinds : List ℕ) → setUpReason base w kinds ≡ 0
+    → setUp base w kinds ≡ served (encode base (empty kinds)) (outcome ok [] [])
 unfolding setUp
-set-up-served w kinds = unless-accepted (setUpReason base w kinds) w [] (served (encode base (empty kinds)) (outcome ok [] []))
+set-up-served w kinds =
+    unless-accepted (setUpReason base w kinds) w [] (served (encode base (empty kinds)) (outcome ok [] []))
 
 pub begin-served : (w : List ℕ) (t : ℕ) → beginReason base whetherSound w t ≡ 0
     → begin base whetherSound w t ≡ served (encode base (withStatus t active (decode base w))) (outcome ok [] [])
 unfolding begin
 begin-served w t =
-    unless-accepted (beginReason base whetherSound w t) w [] (served (encode base (withStatus t active (decode base w))) (outcome ok [] []))
+    unless-accepted (beginReason base whetherSound w t) w []
+    (served (encode base (withStatus t active (decode base w))) (outcome ok [] []))
+
+-- Begin writes one word.
+pub begin-written : (w : List ℕ) (t : ℕ) → beginReason base whetherSound w t ≡ 0
+    → (begin base whetherSound w t .book ≡ set w (1 + t) 1) × (1 + t < length w)
+begin-written w t accepted =
+    let h = begin-accepted base whetherSound w t accepted in (
+      ap (λ (r : Served). r .book) (begin-served w t accepted) ∙ sym (status-put w (h .sound .packed) t 1 (h .below)),
+      omega (arith, h .words, h .below),
+    )
 
 -- What they write is read back.
 pub read-back : (r : Served) (s : Store) → Representable base s → r ≡ served (encode base s) (outcome ok [] [])
     → (r .outcome .reply ≡ ok) × (decode base (r .book) ≡ s)
-read-back r s fits e = (ap (λ (x : Served). x .outcome .reply) e, ap (λ (x : Served). decode base (x .book)) e ∙ decoded s fits)
+read-back r s fits e =
+    (ap (λ (x : Served). x .outcome .reply) e, ap (λ (x : Served). decode base (x .book)) e ∙ decoded s fits)
 
-module _ (w : List ℕ) (o : ℕ) (accepted : contentsReason base whetherSound w o ≡ 0) where
+module _ (w : List ℕ) (o : ℕ) where
   abbrev rows : List Row
   rows = objectOf (decode base w) o .rows
 
-  pub contents-served : contents base whetherSound w o ≡ served w (outcome (counted (length rows)) [] (joined rowWords rows))
-  unfolding contents
-  contents-served =
-      unless-accepted (contentsReason base whetherSound w o) w [] (served w (outcome (counted (length rows)) [] (joined rowWords rows))) accepted
+  module _ (accepted : contentsReason base whetherSound w o ≡ 0) where
+    pub contents-served : contents base whetherSound w o
+        ≡ served w (outcome (counted (length rows)) [] (joined rowWords rows))
+    unfolding contents
+    contents-served =
+        unless-accepted (contentsReason base whetherSound w o) w []
+        (served w (outcome (counted (length rows)) [] (joined rowWords rows))) accepted
 
-  -- They are that part of the book.
-  pub contents-part : joined rowWords rows ≡ take (2 * length rows) (drop (objectStart o + 2) w)
-  contents-part =
-      let h = contents-accepted base whetherSound w o accepted in
-      let l = kind-below base w o (h .kind .0) (h .kind .1) in
-      let n : objectStart o + 2 + 2 * length rows - (objectStart o + 2) ≡ 2 * length rows = omega arith in
-      sym (ap (λ (m : ℕ). take m (drop (objectStart o + 2) w)) (sym n) ∙ rows-part w o l (h .sound .packed) (length rows) (rows-counted w o l))
+    -- They are that part of the book.
+    pub contents-part : joined rowWords rows ≡ take (2 * length rows) (drop (objectStart o + 2) w)
+    contents-part =
+        let h = contents-accepted base whetherSound w o accepted in
+        let l = kind-below base w o (h .kind .0) (h .kind .1) in
+        let n : objectStart o + 2 + 2 * length rows - (objectStart o + 2) ≡ 2 * length rows = omega arith in
+        sym (ap (λ (m : ℕ). take m (drop (objectStart o + 2) w)) (sym n)
+        ∙ rows-part w o l (h .sound .packed) (length rows) (rows-counted w o l))
+
+-- Whatever the reason: where the reply counts n rows, 2 * n words from the object's first row on are handed back.
+pub counted-part : (w : List ℕ) (o n : ℕ) → contents base whetherSound w o .outcome .reply ≡ counted n
+    → contents base whetherSound w o .outcome .rows ≡ take (2 * n) (drop (objectStart o + 2) w)
+counted-part w o n said =
+    same (contentsReason base whetherSound w o) 0
+    (λ accepted.
+    let so = contents-served w o accepted in
+    let e : counted (length (rows w o)) ≡ counted n = sym (ap (λ (r : Served). r .outcome .reply) so) ∙ said in
+    let many : length (rows w o) ≡ n = cc in
+    ap (λ (r : Served). r .outcome .rows) so ∙ contents-part w o accepted
+    ∙ ap (λ (m : ℕ). take (2 * m) (drop (objectStart o + 2) w)) many)
+    (λ applies.
+    let g = guard (calling.contents o) w in
+    let e = refused-by _ w [] _ g _ .1 (refl, applies) in
+    clash cc)

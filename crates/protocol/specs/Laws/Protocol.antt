@@ -1,5 +1,5 @@
 -- What a call that is not refused replies, and on whom a transaction depends afterwards.
-use Prim.Native.Nat.{ℕ, zero, suc}
+use Prim.Native.Nat.{ℕ, zero, suc, _+_, _≤_, _<_}
 use mathlib.Core.Path.{_≡_, refl, sym, ap, _∙_, subst}
 use mathlib.Core.Bool.{false, false≢true, decide, decide-iff}
 use mathlib.Core.Option.{Option, none, some}
@@ -7,26 +7,29 @@ use mathlib.Core.Logic.{_↔_, _⊎_, inl, inr, ⊎-elim, Iff·trans}
 use mathlib.Core.List.{List, []}
 use native.Mathlib.Omega.{arith}
 use lib.ListN.{length, getD}
-use Rattle.operations.specs.Operations.{Operation, Reply}
+use Rattle.operations.specs.Operations.{Operation, Answer}
 use Rattle.operations.specs.PairRules.{commutes}
 use Rattle.store.specs.Store.{pseudoCommitted, Logged, Store, PseudoCommitted, pseudoCommittedCount, onObject}
-use Rattle.store.specs.Dependency.{Any, Follows, Conflict, DependsOn, Ready, Way, Path, OnCycle}
-use Rattle.store.specs.Layout.{decode, encode, Representable, base}
+use Rattle.store.specs.Dependency.{Any, Follows, Conflict, DependsOn, Ready, Way, Leads, OnCycle}
+use Rattle.store.specs.Layout.{decode, encode, Representable, base, word, entryStart, entryWords}
 use Rattle.store.specs.Decisions.{whetherReady, whetherOnCycle, whetherSound}
 use Rattle.store.specs.Steps.{appended, withStatus}
 use Rattle.store.specs.Theorems.{representable, decoded, cycle-any-length}
 use Rattle.store.specs.Laws.Changes.{representable-status, representable-appended}
 use Rattle.store.specs.Laws.Edges.{depends-appended}
+use Rattle.store.specs.Laws.Writing.{log-counted, entry-put, put-count, put-entry, put-other, put-length}
 use Rattle.store.specs.Laws.Graph.{depends-on-some}
 use Rattle.store.specs.Laws.Any.{any-some, any-map}
 use Rattle.store.specs.Laws.Deciding.{decided}
 use Rattle.store.specs.Laws.Lists.{PairBelow, follows-some, follows-of, tabulate-getD}
-use Rattle.protocol.specs.Replies.{Response, answered, wait, finished, committed, circle, cancelled, outcome, Served, served}
+use Rattle.protocol.specs.Replies.{Reply, answered, wait, finished, committed, circle, cancelled, outcome, Served}
+use Rattle.protocol.specs.Replies.{served}
 use Rattle.protocol.specs.Ending.{ended, commit, committedFirst, settledAll}
 use Rattle.protocol.specs.Terms.{Places}
 use Rattle.protocol.specs.Laws.Detours.{joined}
 use Rattle.protocol.specs.Laws.Reasons.{unless-accepted, operate-accepted, end-accepted}
-use Rattle.protocol.specs.Calls.{blocker, request, answerTo, entered, respond, finishActive, operateReason, operate, endReason, finish, cancel, concluded}
+use Rattle.protocol.specs.Calls.{blocker, request, answerTo, respond, finishActive, operateReason}
+use Rattle.protocol.specs.Calls.{operate, endReason, finish, cancel, concluded}
 
 -- Two constructors are not the same.
 pub clash : {A : Type 0} → _≡_ {A = ℕ} 0 1 → A
@@ -35,11 +38,11 @@ clash e = absurd (omega arith)
 -- ---- Operate: answered or told to wait
 
 module _ (w : List ℕ) (t o : ℕ) (requested : Operation) where
-  abbrev said : Option ℕ → Response
+  abbrev said : Option ℕ → Reply
   said b = respond base w t o requested b .outcome .reply
 
-  pub answered-none : (b : Option ℕ) → ((a : Reply) × (said b ≡ answered a)) ↔ (b ≡ none)
-  answered-none none = (λ p. refl, λ e. (answerTo base requested (decode base w) o, refl))
+  pub answered-none : (b : Option ℕ) → ((a : Answer) × (said b ≡ answered a)) ↔ (b ≡ none)
+  answered-none none = (λ p. refl, λ e. (answerTo requested (decode base w) o, refl))
   answered-none (some owner) = (
     λ p. let e = p .1 in clash cc,
     λ e. clash cc,
@@ -49,15 +52,17 @@ module _ (w : List ℕ) (t o : ℕ) (requested : Operation) where
   waits-some owner none = (λ e. clash cc, λ e. clash cc)
   waits-some owner (some u) = (λ e. cc, λ e. cc)
 
-  pub either-reply : (b : Option ℕ) → ((a : Reply) × (said b ≡ answered a)) ⊎ ((owner : ℕ) × (said b ≡ wait owner) × (respond base w t o requested b .book ≡ w))
-  either-reply none = inl (answerTo base requested (decode base w) o, refl)
+  pub either-reply : (b : Option ℕ) → ((a : Answer) × (said b ≡ answered a))
+      ⊎ ((owner : ℕ) × (said b ≡ wait owner) × (respond base w t o requested b .book ≡ w))
+  either-reply none = inl (answerTo requested (decode base w) o, refl)
   either-reply (some owner) = inr (owner, refl, refl)
 
 -- ---- Operate: ordered behind another
 
 -- The entry is b's, on the object, and does not commute with the request.
 abbrev Behind : ℕ → Operation → ℕ → Logged → Type 0
-Behind o requested b l = (l .entry .transaction ≡ b) × (l .object ≡ o) × (commutes requested (l .entry .operation) ≡ false)
+Behind o requested b l =
+    (l .entry .transaction ≡ b) × (l .object ≡ o) × (commutes requested (l .entry .operation) ≡ false)
 
 -- A request of t that is put last in the log is behind those whose entries it conflicts with.
 behind : (x b : ℕ) (last : Logged) (log : List Logged)
@@ -67,20 +72,24 @@ behind x b last log = (
   λ p. let c = any-some (λ (e : Logged). Conflict x b e last) log (p .1) in (
     sym (c .1 .0),
     p .0,
-    any-map (λ (e : Logged). Conflict x b e last) (Behind (last .object) (last .entry .operation) b) (λ l h. (h .1, sym (h .2), h .3)) log (p .1),
+    any-map (λ (e : Logged). Conflict x b e last) (Behind (last .object) (last .entry .operation) b)
+        (λ l h. (h .1, sym (h .2), h .3)) log (p .1),
   ),
   λ p. (
     p .1,
-    any-map (Behind (last .object) (last .entry .operation) b) (λ (e : Logged). Conflict x b e last) (λ l h. (sym (p .0), h .0, sym (h .1), h .2)) log (p .2),
+    any-map (Behind (last .object) (last .entry .operation) b) (λ (e : Logged). Conflict x b e last)
+        (λ l h. (sym (p .0), h .0, sym (h .1), h .2)) log (p .2),
   ),
 )
 
 -- An entry and a later one that conflict stand at two places of the log.
 pub conflict-places : (d : Logged) (log : List Logged) (a b : ℕ) → Follows (Conflict a b) log ↔ Places d log a b
 conflict-places d log a b = (
-  λ h. places (follows-some (Conflict a b) (length log) entry (subst (Follows (Conflict a b)) (sym (tabulate-getD log d)) h)),
+  λ h. places (follows-some (Conflict a b) (length log) entry
+      (subst (Follows (Conflict a b)) (sym (tabulate-getD log d)) h)),
   λ p. subst (Follows (Conflict a b)) (tabulate-getD log d)
-      (follows-of (Conflict a b) (length log) entry (p .earlier) (p .later) (p .inOrder) (p .within) (p .own, p .owner, p .object, p .apart)),
+      (follows-of (Conflict a b) (length log) entry (p .earlier) (p .later) (p .inOrder) (p .within)
+      (p .own, p .owner, p .object, p .apart)),
 )
   where
     entry : ℕ → Logged
@@ -88,7 +97,16 @@ conflict-places d log a b = (
 
     places : PairBelow (Conflict a b) (length log) entry → Places d log a b
     places (i, j, l, m, c) =
-        record { earlier = i; later = j; inOrder = l; within = m; owner = c .1; own = c .0; object = c .2; apart = c .3 }
+        record {
+          earlier = i;
+          later = j;
+          inOrder = l;
+          within = m;
+          owner = c .1;
+          own = c .0;
+          object = c .2;
+          apart = c .3;
+        }
 
 -- ---- Operate
 
@@ -108,39 +126,64 @@ module _ (w : List ℕ) (t o number k v : ℕ) (accepted : operateReason base wh
 
   pub responded : operated ≡ respond base w t o requested scanned
   unfolding operate
-  responded = unless-accepted (operateReason base whetherSound w t o number k v) w [] (respond base w t o requested scanned) accepted
+  responded =
+      unless-accepted (operateReason base whetherSound w t o number k v) w [] (respond base w t o requested scanned)
+      accepted
 
   -- The answered request's entry.
-  abbrev entryOf : Reply → Logged
+  abbrev entryOf : Answer → Logged
   entryOf a = record { object = o; entry = record { transaction = t; operation = requested; answer = a } }
 
-  module _ (a : Reply) (said : operated .outcome .reply ≡ answered a) where
+  module _ (a : Answer) (said : operated .outcome .reply ≡ answered a) where
     passed : scanned ≡ none
     passed = answered-none w t o requested scanned .0 (a, ap (λ (r : Served). r .outcome .reply) (sym responded) ∙ said)
 
     carriedThrough : operated ≡ respond base w t o requested none
     carriedThrough = responded ∙ ap (respond base w t o requested) passed
 
-    pub replayed : a ≡ answerTo base requested s o
+    pub replayed : a ≡ answerTo requested s o
     replayed =
-        let e : answered (answerTo base requested s o) ≡ answered a = ap (λ (r : Served). r .outcome .reply) (sym carriedThrough) ∙ said in
+        let e : answered (answerTo requested s o) ≡ answered a =
+        ap (λ (r : Served). r .outcome .reply) (sym carriedThrough) ∙ said in
         cc
+
+    -- The book is that with the entry put last.
+    written : operated .book ≡ encode base (appended (entryOf a) s)
+    written =
+        ap (λ (r : Served). r .book) carriedThrough
+        ∙ ap (λ (x : Answer). encode base (appended (entryOf x) s)) (sym replayed)
+
+    pub eight-words : let start = entryStart (word w 0) in
+        (word (operated .book) 0 ≡ word w 0 + 1)
+        × ((j : ℕ) → j < 7 → word (operated .book) (start + j) ≡ word (entryWords (entryOf a)) j)
+        × ((i : ℕ) → (i ≡ 0 → ⊥) → (i < start) ⊎ (start + 7 ≤ i) → word (operated .book) i ≡ word w i)
+        × (length (operated .book) ≡ length w)
+    eight-words =
+        let h = operate-accepted base whetherSound w t o number k v accepted in
+        let l = entryOf a in
+        let packed = h .sound .packed in
+        let room : word w 0 < 256 = omega (arith, log-counted w, h .entries) in
+        rw (written, ← entry-put w packed l room)
+        (put-count w packed l room, put-entry w packed l room, put-other w packed l room, put-length w packed l room)
 
     pub entered-last : decode base (operated .book) ≡ appended (entryOf a) s
     entered-last =
         let h = operate-accepted base whetherSound w t o number k v accepted in
-        ap (λ (r : Served). decode base (r .book)) carriedThrough
-        ∙ decoded (entered base t o requested s)
-        (representable-appended s (representable w (h .sound .packed)) (entryOf (answerTo base requested s o)) (h .entries))
-        ∙ ap (λ (x : Reply). appended (entryOf x) s) (sym replayed)
+        ap (decode base) written
+        ∙ decoded (appended (entryOf a) s)
+        (representable-appended s (representable w (h .sound .packed)) (entryOf a) (h .entries))
 
     pub ordered : (x b : ℕ)
-        → DependsOn (decode base (operated .book) .log) x b ↔ (DependsOn (s .log) x b ⊎ ((x ≡ t) × (x ≡ b → ⊥) × Any (Behind o requested b) (s .log)))
+        → DependsOn (decode base (operated .book) .log) x b
+        ↔ (DependsOn (s .log) x b ⊎ ((x ≡ t) × (x ≡ b → ⊥) × Any (Behind o requested b) (s .log)))
     ordered x b =
-        subst (λ (l : List Logged). DependsOn l x b ↔ (DependsOn (s .log) x b ⊎ ((x ≡ t) × (x ≡ b → ⊥) × Any (Behind o requested b) (s .log))))
+        subst (λ (l : List Logged). DependsOn l x b ↔ (DependsOn (s .log) x b
+        ⊎ ((x ≡ t) × (x ≡ b → ⊥) × Any (Behind o requested b) (s .log))))
         (ap (λ (r : Store). r .log) (sym entered-last))
-        (Iff·trans (depends-appended x b (entryOf a) (s .log))
-        (⊎-elim inl (λ p. inr (behind x b (entryOf a) (s .log) .0 p)), ⊎-elim inl (λ p. inr (behind x b (entryOf a) (s .log) .1 p))))
+        (Iff·trans (depends-appended x b (entryOf a) (s .log)) (
+          ⊎-elim inl (λ p. inr (behind x b (entryOf a) (s .log) .0 p)),
+          ⊎-elim inl (λ p. inr (behind x b (entryOf a) (s .log) .1 p)),
+        ))
 
 -- ---- Finish: a circle, a commit or neither
 
@@ -148,17 +191,21 @@ not-decided : {P : Type 0} (d : Dec P) → (P → ⊥) → decide d ≡ false
 not-decided d n = decided d false (λ e. absurd (false≢true e), λ p. absurd (n p))
 
 -- No way leads on from one that depends on nobody.
-pub ready-leads-nowhere : (log : List Logged) (Through : ℕ → Type 0) (n t u : ℕ) → Ready log t → Way (DependsOn log) Through n t u → ⊥
+pub ready-leads-nowhere : (log : List Logged) (Through : ℕ → Type 0) (n t u : ℕ) → Ready log t
+    → Way (DependsOn log) Through n t u → ⊥
 ready-leads-nowhere log Through zero t u ready w = w
 ready-leads-nowhere log Through (suc n) t u ready (inl d) = ready u d
 ready-leads-nowhere log Through (suc n) t u ready (inr (c, p, d, w)) = ready c d
 
 -- One lies on a circle exactly where another such one is on a way from it and on a way to it: document 000's theorem 2.
 pub circle-shared : (log : List Logged) (Through : ℕ → Type 0) (t : ℕ)
-    → Path (DependsOn log) Through t t ↔ ((u : ℕ) × Through u × Path (DependsOn log) Through t u × Path (DependsOn log) Through u t)
-circle-shared log Through t = (λ p. first-step (p .0) (p .1), λ h. joined (DependsOn log) Through (h .2 .0) t (h .0) t (h .2 .1) (h .1) (h .3))
+    → Leads (DependsOn log) Through t t
+    ↔ ((u : ℕ) × Through u × Leads (DependsOn log) Through t u × Leads (DependsOn log) Through u t)
+circle-shared log Through t =
+    (λ p. first-step (p .0) (p .1), λ h. joined (DependsOn log) Through (h .2 .0) t (h .0) t (h .2 .1) (h .1) (h .3))
   where
-    first-step : (n : ℕ) → Way (DependsOn log) Through n t t → (u : ℕ) × Through u × Path (DependsOn log) Through t u × Path (DependsOn log) Through u t
+    first-step : (n : ℕ) → Way (DependsOn log) Through n t t
+        → (u : ℕ) × Through u × Leads (DependsOn log) Through t u × Leads (DependsOn log) Through u t
     first-step zero w = absurd w
     first-step (suc n) (inl d) = absurd (d .0 refl)
     first-step (suc n) (inr (c, p, d, w)) = (c, p, (1, inl d), (n, w))
@@ -185,14 +232,16 @@ module _ (s : Store) (t : ℕ) (list : List ℕ) where
   on-circle : OnCircle s t → finishActive base s t list ≡ concluded base circle list (settledAll (ended t s))
   on-circle c = let e = decide-iff (whetherOnCycle s t) .1 c in rw e refl
 
-  on-nobody : OnNobody s t → finishActive base s t list ≡ concluded base committed list (committedFirst t (settledAll (commit t s)))
+  on-nobody : OnNobody s t → finishActive base s t list
+      ≡ concluded base committed list (committedFirst t (settledAll (commit t s)))
   on-nobody (n, r) =
       let e = not-decided (whetherOnCycle s t) n in
       let f = decide-iff (whetherReady (s .log) t) .1 r in
       rw (e, f) refl
 
   on-others : OnOthers s t
-      → finishActive base s t list ≡ served (encode base (withStatus t (pseudoCommitted (pseudoCommittedCount s)) s)) (outcome finished list [])
+      → finishActive base s t list
+      ≡ served (encode base (withStatus t (pseudoCommitted (pseudoCommittedCount s)) s)) (outcome finished list [])
   on-others (n, m) =
       let e = not-decided (whetherOnCycle s t) n in
       let f = not-decided (whetherReady (s .log) t) m in
@@ -201,7 +250,8 @@ module _ (s : Store) (t : ℕ) (list : List ℕ) where
   -- What holds of each of the three ways holds of finish.
   pub finish-by : (P : Served → Type 0) → (OnCircle s t → P (concluded base circle list (settledAll (ended t s))))
       → (OnNobody s t → P (concluded base committed list (committedFirst t (settledAll (commit t s)))))
-      → (OnOthers s t → P (served (encode base (withStatus t (pseudoCommitted (pseudoCommittedCount s)) s)) (outcome finished list [])))
+      → (OnOthers s t
+      → P (served (encode base (withStatus t (pseudoCommitted (pseudoCommittedCount s)) s)) (outcome finished list [])))
       → P (finishActive base s t list)
   finish-by P cyclic free dependent = by (which s t)
     where
@@ -212,8 +262,10 @@ module _ (s : Store) (t : ℕ) (list : List ℕ) where
 
   pub circle-exactly : ((n : ℕ) × (finishActive base s t list .outcome .reply ≡ circle n)) ↔ OnCycle s t
   circle-exactly =
-      finish-by (λ (r : Served). ((n : ℕ) × (r .outcome .reply ≡ circle n)) ↔ OnCycle s t) (λ c. (λ p. c, λ p. (_, refl)))
-      (λ h. (λ p. let e = p .1 in clash cc, λ c. absurd (h .0 c))) (λ h. (λ p. let e = p .1 in clash cc, λ c. absurd (h .0 c)))
+      finish-by (λ (r : Served). ((n : ℕ) × (r .outcome .reply ≡ circle n)) ↔ OnCycle s t)
+      (λ c. (λ p. c, λ p. (_, refl)))
+      (λ h. (λ p. let e = p .1 in clash cc, λ c. absurd (h .0 c)))
+      (λ h. (λ p. let e = p .1 in clash cc, λ c. absurd (h .0 c)))
 
   pub committed-exactly : ((n : ℕ) × (finishActive base s t list .outcome .reply ≡ committed n)) ↔ Ready (s .log) t
   committed-exactly =
@@ -221,18 +273,21 @@ module _ (s : Store) (t : ℕ) (list : List ℕ) where
       (λ c. (λ p. let e = p .1 in clash cc, λ r. absurd (ready-leads-nowhere (s .log) (PseudoCommitted s) 64 t t r c)))
       (λ h. (λ p. h .1, λ p. (_, refl))) (λ h. (λ p. let e = p .1 in clash cc, λ r. absurd (h .1 r)))
 
-  pub finished-exactly : (finishActive base s t list .outcome .reply ≡ finished) ↔ ((OnCycle s t → ⊥) × ((u : ℕ) × DependsOn (s .log) t u))
+  pub finished-exactly : (finishActive base s t list .outcome .reply ≡ finished)
+      ↔ ((OnCycle s t → ⊥) × ((u : ℕ) × DependsOn (s .log) t u))
   finished-exactly =
-      finish-by (λ (r : Served). (r .outcome .reply ≡ finished) ↔ ((OnCycle s t → ⊥) × ((u : ℕ) × DependsOn (s .log) t u)))
+      finish-by (λ (r : Served). (r .outcome .reply ≡ finished)
+      ↔ ((OnCycle s t → ⊥) × ((u : ℕ) × DependsOn (s .log) t u)))
       (λ c. (λ e. clash cc, λ h. absurd (h .0 c))) (λ h. (λ e. clash cc, λ g. absurd (h .1 (g .1 .0) (g .1 .1))))
       (λ h. (λ e. (h .0, depends-on-some (s .log) t (h .1)), λ g. refl))
 
-  abbrev OneOfThree : Response → Type 0
+  abbrev OneOfThree : Reply → Type 0
   OneOfThree r = ((n : ℕ) × (r ≡ circle n)) ⊎ ((n : ℕ) × (r ≡ committed n)) ⊎ (r ≡ finished)
 
   pub one-of-three : OneOfThree (finishActive base s t list .outcome .reply)
   one-of-three =
-      finish-by (λ (r : Served). OneOfThree (r .outcome .reply)) (λ c. inl (_, refl)) (λ h. inr (inl (_, refl))) (λ h. inr (inr refl))
+      finish-by (λ (r : Served). OneOfThree (r .outcome .reply)) (λ c. inl (_, refl)) (λ h. inr (inl (_, refl)))
+      (λ h. inr (inr refl))
 
   -- Pseudo-committed, it is last in the order of finishing.
   pub ranked-last : Representable base s → finishActive base s t list .outcome .reply ≡ finished
@@ -242,7 +297,8 @@ module _ (s : Store) (t : ℕ) (list : List ℕ) where
       let h = finished-exactly .0 e in
       let others = on-others (h .0, λ ready. ready (h .1 .0) (h .1 .1)) in
       let rank = pseudoCommitted (pseudoCommittedCount s) in (
-        ap (λ (r : Served). decode base (r .book)) others ∙ decoded (withStatus t rank s) (representable-status s fits t rank),
+        ap (λ (r : Served). decode base (r .book)) others
+            ∙ decoded (withStatus t rank s) (representable-status s fits t rank),
         ap (λ (r : Served). r .outcome .list) others,
       )
 
@@ -256,7 +312,11 @@ module _ (w : List ℕ) (t : ℕ) (list : List ℕ) (accepted : endReason base w
 
   pub cancelling : cancel base whetherSound w t list ≡ concluded base cancelled list (settledAll (ended t book))
   unfolding cancel
-  cancelling = unless-accepted (endReason base whetherSound w t list) w list (concluded base cancelled list (settledAll (ended t book))) accepted
+  cancelling =
+      unless-accepted (endReason base whetherSound w t list) w list
+      (concluded base cancelled list (settledAll (ended t book))) accepted
 
-  pub any-circle : OnCycle book t ↔ Path (DependsOn (book .log)) (PseudoCommitted book) t t
-  any-circle = let h = end-accepted base whetherSound w t list accepted in cycle-any-length book (representable w (h .sound .packed) .statuses) t (h .below)
+  pub any-circle : OnCycle book t ↔ Leads (DependsOn (book .log)) (PseudoCommitted book) t t
+  any-circle =
+      let h = end-accepted base whetherSound w t list accepted in
+      cycle-any-length book (representable w (h .sound .packed) .statuses) t (h .below)

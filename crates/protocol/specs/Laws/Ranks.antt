@@ -10,7 +10,8 @@ use borrow.Author.Tests.{ltb-true, ltb-false, lt-ltb, le-ltb}
 use lib.Dec.{ltb}
 use lib.ListN.{length, getD, set}
 use Rattle.operations.specs.Laws.Cases.{split, same}
-use Rattle.store.specs.Store.{Status, absent, active, pseudoCommitted, Store, statusOf, Active, PseudoCommitted, pseudoCommittedIn, pseudoCommittedCount}
+use Rattle.store.specs.Store.{Status, absent, active, pseudoCommitted, Store, statusOf, Active, PseudoCommitted}
+use Rattle.store.specs.Store.{pseudoCommittedIn, pseudoCommittedCount}
 use Rattle.store.specs.Layout.{statusWord}
 use Rattle.store.specs.Soundness.{OnceEach, WithoutGaps}
 use Rattle.store.specs.Steps.{dropped, withStatus, lowered, closedUp}
@@ -33,7 +34,8 @@ raised-rising (pseudoCommitted out) q r l =
     split (ltb r out)
     (λ (e : ltb r out ≡ true). rw (e, lt-ltb q out (omega (arith, ltb-true r out e))) l)
     (λ (e : ltb r out ≡ false).
-    split (ltb q out) (λ (f : ltb q out ≡ true). rw (e, f) (omega arith)) (λ (f : ltb q out ≡ false). rw (e, f) (omega arith)))
+    split (ltb q out) (λ (f : ltb q out ≡ true). rw (e, f) (omega arith))
+    (λ (f : ltb q out ≡ false). rw (e, f) (omega arith)))
 
 raised-order : (status : Status) (i j : ℕ) → (i < j) ↔ (raised status i < raised status j)
 raised-order status i j = (
@@ -54,20 +56,25 @@ module _ (out : ℕ) where
   lowered-raised r =
       split (ltb r out)
       (λ (e : ltb r out ≡ true). rw (e, le-ltb out r (omega (arith, ltb-true r out e))))
-      (λ (e : ltb r out ≡ false). rw (e, lt-ltb out (suc r) (omega (arith, ltb-false r out e))) (ap pseudoCommitted (omega arith)))
+      (λ (e : ltb r out ≡ false). rw (e, lt-ltb out (suc r) (omega (arith, ltb-false r out e)))
+      (ap pseudoCommitted (omega arith)))
 
-  raised-lowered : (x r : ℕ) → (x ≡ out → ⊥) → lowered out (pseudoCommitted x) ≡ pseudoCommitted r → x ≡ raised (pseudoCommitted out) r
+  raised-lowered : (x r : ℕ) → (x ≡ out → ⊥) → lowered out (pseudoCommitted x) ≡ pseudoCommitted r
+      → x ≡ raised (pseudoCommitted out) r
   raised-lowered x r other e =
       let f : cond (ltb out x) (x - 1) x ≡ r = same-rank _ r e in
       split (ltb out x)
-      (λ (b : ltb out x ≡ true). let g : x - 1 ≡ r = rw b at f in rw (le-ltb r out (omega (arith, ltb-true out x b))) (omega (arith, ltb-true out x b)))
+      (λ (b : ltb out x ≡ true). let g : x - 1 ≡ r = rw b at f in
+      rw (le-ltb r out (omega (arith, ltb-true out x b))) (omega (arith, ltb-true out x b)))
       (λ (b : ltb out x ≡ false). let g : x ≡ r = rw b at f in rw (lt-ltb r out (omega (arith, ltb-false out x b))) g)
 
-  before-lowered : (status : Status) (r : ℕ) → (status ≡ pseudoCommitted out → ⊥) → lowered out status ≡ pseudoCommitted r
+  before-lowered : (status : Status) (r : ℕ) → (status ≡ pseudoCommitted out → ⊥)
+      → lowered out status ≡ pseudoCommitted r
       → status ≡ pseudoCommitted (raised (pseudoCommitted out) r)
   before-lowered absent r other e = absurd (absent-unranked r e)
   before-lowered active r other e = absurd (active-unranked r e)
-  before-lowered (pseudoCommitted x) r other e = ap pseudoCommitted (raised-lowered x r (λ q. other (ap pseudoCommitted q)) e)
+  before-lowered (pseudoCommitted x) r other e =
+      ap pseudoCommitted (raised-lowered x r (λ q. other (ap pseudoCommitted q)) e)
 
 -- Of two with a rank in both stores, the one is below the other in the one store exactly if it is in the other.
 abbrev pub SameOrder : Store → Store → Type 0
@@ -89,10 +96,12 @@ module _ (s : Store) (t : ℕ) where
       same u t (λ q. absurd (absent-unranked r (sym (status-removed (dropped t s) t) ∙ ap (statusOf left) (sym q) ∙ e)))
       (λ other. (other, sym (status-other (dropped t s) t absent u other) ∙ e))
 
-  another : (status : Status) → statusOf s t ≡ status → (u r : ℕ) → statusOf s u ≡ pseudoCommitted (raised status r) → u ≡ t → ⊥
+  another : (status : Status) → statusOf s t ≡ status → (u r : ℕ) → statusOf s u ≡ pseudoCommitted (raised status r)
+      → u ≡ t → ⊥
   another absent own u r e q = absent-unranked r (sym own ∙ ap (statusOf s) (sym q) ∙ e)
   another active own u r e q = active-unranked r (sym own ∙ ap (statusOf s) (sym q) ∙ e)
-  another (pseudoCommitted out) own u r e q = raised-other out r (same-rank _ _ (sym (sym own ∙ ap (statusOf s) (sym q) ∙ e)))
+  another (pseudoCommitted out) own u r e q =
+      raised-other out r (same-rank _ _ (sym (sym own ∙ ap (statusOf s) (sym q) ∙ e)))
 
   after : (status : Status) → statusOf s t ≡ status → (u r : ℕ) → statusOf s u ≡ pseudoCommitted (raised status r)
       → statusOf (closedAfter status left) u ≡ pseudoCommitted r
@@ -104,7 +113,8 @@ module _ (s : Store) (t : ℕ) where
       ∙ lowered-raised out r
 
   module _ (once : OnceEach s) where
-    before : (status : Status) → statusOf s t ≡ status → (u r : ℕ) → statusOf (closedAfter status left) u ≡ pseudoCommitted r
+    before : (status : Status) → statusOf s t ≡ status → (u r : ℕ)
+        → statusOf (closedAfter status left) u ≡ pseudoCommitted r
         → statusOf s u ≡ pseudoCommitted (raised status r)
     before absent own u r e = remains u r e .1
     before active own u r e = remains u r e .1
@@ -115,7 +125,8 @@ module _ (s : Store) (t : ℕ) where
         (sym (status-closed left out u) ∙ e)) .1
 
     -- Who has which rank once t has ended.
-    ended-rank : (u r : ℕ) → (statusOf (ended t s) u ≡ pseudoCommitted r) ↔ (statusOf s u ≡ pseudoCommitted (raised (statusOf s t) r))
+    ended-rank : (u r : ℕ) → (statusOf (ended t s) u ≡ pseudoCommitted r)
+        ↔ (statusOf s u ≡ pseudoCommitted (raised (statusOf s t) r))
     ended-rank u r = (before (statusOf s t) refl u r, after (statusOf s t) refl u r)
 
     pub ended-order : SameOrder s (ended t s)
@@ -130,11 +141,13 @@ module _ (s : Store) (t : ℕ) where
     pub ended-gapless : WithoutGaps s → WithoutGaps (ended t s)
     ended-gapless gapless u r lower e l =
         let w =
-        gapless u (raised (statusOf s t) r) (raised (statusOf s t) lower) (ended-rank u r .0 e) (raised-rising (statusOf s t) lower r l) in
+        gapless u (raised (statusOf s t) r) (raised (statusOf s t) lower) (ended-rank u r .0 e)
+        (raised-rising (statusOf s t) lower r l) in
         (w .0, ended-rank (w .0) lower .1 (w .1))
 
 -- What holds of a store, and once ranks have closed up, holds whatever status the one had that ended.
-pub closed-any : (P : Store → Type 0) (s : Store) → P s → ((out : ℕ) → P (closedUp out s)) → (status : Status) → P (closedAfter status s)
+pub closed-any : (P : Store → Type 0) (s : Store) → P s → ((out : ℕ) → P (closedUp out s)) → (status : Status)
+    → P (closedAfter status s)
 closed-any P s p closed absent = p
 closed-any P s p closed active = p
 closed-any P s p closed (pseudoCommitted out) = closed out
@@ -147,7 +160,8 @@ count-lowered out (absent ∷ l) = count-lowered out l
 count-lowered out (active ∷ l) = count-lowered out l
 count-lowered out (pseudoCommitted rank ∷ l) = ap suc (count-lowered out l)
 
-count-set : (l : List Status) (i : ℕ) → pseudoCommittedIn (set l i absent) + pseudoCommittedIn (getD l i absent ∷ []) ≡ pseudoCommittedIn l
+count-set : (l : List Status) (i : ℕ)
+    → pseudoCommittedIn (set l i absent) + pseudoCommittedIn (getD l i absent ∷ []) ≡ pseudoCommittedIn l
 count-set [] i = refl
 count-set (absent ∷ l) zero = omega arith
 count-set (active ∷ l) zero = omega arith
@@ -160,14 +174,15 @@ module _ (s : Store) (t : ℕ) where
   count-ended : pseudoCommittedCount (ended t s) + pseudoCommittedIn (statusOf s t ∷ []) ≡ pseudoCommittedCount s
   count-ended =
       let closed =
-      closed-any (λ (x : Store). pseudoCommittedCount x ≡ pseudoCommittedCount (left s t)) (left s t) refl (λ out. count-lowered out (left s t .statuses))
+      closed-any (λ (x : Store). pseudoCommittedCount x ≡ pseudoCommittedCount (left s t)) (left s t) refl
+      (λ out. count-lowered out (left s t .statuses))
       (statusOf s t) in
       omega (arith, closed, count-set (s .statuses) t)
 
   pub count-falls : PseudoCommitted s t → suc (pseudoCommittedCount (ended t s)) ≡ pseudoCommittedCount s
   count-falls (rank, e) = omega (arith, count-ended, ap (λ (x : Status). pseudoCommittedIn (x ∷ [])) e)
 
-  pub count-kept : Active s t → pseudoCommittedCount (ended t s) ≡ pseudoCommittedCount s
+  count-kept : Active s t → pseudoCommittedCount (ended t s) ≡ pseudoCommittedCount s
   count-kept e = omega (arith, count-ended, ap (λ (x : Status). pseudoCommittedIn (x ∷ [])) e)
 
 -- ---- Ranks are the numbers below that
@@ -190,18 +205,21 @@ lowest s gapless p = descend (some-counted (s .statuses) p)
 ended-lowest : (s : Store) (t : ℕ) → OnceEach s → statusOf s t ≡ pseudoCommitted 0 → (r u : ℕ)
     → (statusOf (ended t s) u ≡ pseudoCommitted r) ↔ (statusOf s u ≡ pseudoCommitted (suc r))
 ended-lowest s t once e r u =
-    let one-less : raised (statusOf s t) r ≡ suc r = ap (λ (x : Status). raised x r) e ∙ rw (le-ltb r 0 (omega arith)) in
+    let one-less : raised (statusOf s t) r ≡ suc r =
+    ap (λ (x : Status). raised x r) e ∙ rw (le-ltb r 0 (omega arith)) in
     rw one-less at (ended-rank s t once u r)
 
 counted : (n : ℕ) (s : Store) → pseudoCommittedCount s ≡ n → OnceEach s → WithoutGaps s → (r : ℕ)
     → (r < n) ↔ ((u : ℕ) × (statusOf s u ≡ pseudoCommitted r))
-counted zero s c once gapless r = (λ l. absurd (not-suc-le-zero l), λ w. absurd (omega (arith, count-falls s (w .0) (r, w .1))))
+counted zero s c once gapless r =
+    (λ l. absurd (not-suc-le-zero l), λ w. absurd (omega (arith, count-falls s (w .0) (r, w .1))))
 counted (suc n) s c once gapless zero = (λ l. lowest s gapless (omega arith), λ w. omega arith)
 counted (suc n) s c once gapless (suc r) =
     let w = lowest s gapless (omega arith) in
     let t = w .0 in
     let shifted = ended-lowest s t once (w .1) r in
-    let rest = counted n (ended t s) (omega (arith, count-falls s t (0, w .1))) (ended-once s t once) (ended-gapless s t once gapless) r in (
+    let rest = counted n (ended t s) (omega (arith, count-falls s t (0, w .1))) (ended-once s t once)
+    (ended-gapless s t once gapless) r in (
       λ l. let v = rest .0 (omega arith) in (v .0, shifted (v .0) .0 (v .1)),
       λ v. omega (arith, rest .1 (v .0, shifted (v .0) .1 (v .1))),
     )
@@ -217,7 +235,8 @@ count-within (active ∷ l) = omega (arith, count-within l)
 count-within (pseudoCommitted rank ∷ l) = omega (arith, count-within l)
 
 -- So there are ranks below 64 alone.
-pub rank-below : (s : Store) → length (s .statuses) ≡ 64 → OnceEach s → WithoutGaps s → (t r : ℕ) → statusOf s t ≡ pseudoCommitted r → r < 64
+pub rank-below : (s : Store) → length (s .statuses) ≡ 64 → OnceEach s → WithoutGaps s → (t r : ℕ)
+    → statusOf s t ≡ pseudoCommitted r → r < 64
 rank-below s l once gapless t r e = omega (arith, ranks-counted s once gapless r .1 (t, e), count-within (s .statuses))
 
 -- One is active, so not all are pseudo-committed.

@@ -4,7 +4,8 @@ use mathlib.Core.Path.{refl, _∙_}
 use mathlib.Core.List.{List}
 use borrow.Author.Needs.{needs}
 use borrow.Author.Tests.{lt-ltb}
-use Rattle.refusals.specs.Laws.{applies, passed, other-length, soundness, already-live, not-live, past-length, past-soundness, past-last}
+use Rattle.refusals.specs.Laws.{applies, passed, other-length, soundness, already-live, not-live, past-length}
+use Rattle.refusals.specs.Laws.{past-soundness, past-last}
 use Rattle.refusals.proofs.begin.Statement.{statement}
 use Rattle.refusals.proofs.begin.Tie as tie
 
@@ -23,21 +24,25 @@ above-last : tie.Need-returns-3
 above-last c =
     let called = c .before .before in
     let w = book (called .before .before .before) in
-    past-soundness w (called .before .if1 .left) (called .sound .ensures) (c .before .if2 .left) (applies _ _ (lt-ltb 63 _ (c .if3 .taken)))
+    past-soundness w (called .before .if1 .left) (called .sound .ensures) (c .before .if2 .left)
+    (applies _ _ (lt-ltb 63 _ (c .if3 .taken)))
 
 live : tie.Need-returns-4
 live c =
     let s = c .before .before .before in
     let w = book (s .before .before .before .before) in
-    past-last w (s .before .before .if1 .left) (s .before .sound .ensures) (s .if2 .left) _ (c .before .before .if3 .left)
+    past-last w (s .before .before .if1 .left) (s .before .sound .ensures) (s .if2 .left) _
+    (c .before .before .if3 .left)
     (applies _ _ (already-live w _ _ (c .before .before .if3 .left) (c .before .status-word .ensures) (c .if4 .taken)))
 
 accepted : tie.Need-returns-5
 accepted c =
     let s = c .before .before .before in
     let w = book (s .before .before .before .before) in
-    past-last w (s .before .before .if1 .left) (s .before .sound .ensures) (s .if2 .left) _ (c .before .before .if3 .left)
+    past-last w (s .before .before .if1 .left) (s .before .sound .ensures) (s .if2 .left) _
+    (c .before .before .if3 .left)
     (passed _ (not-live w _ _ (c .before .before .if3 .left) (c .before .status-word .ensures) (c .if4 .left)) refl)
 
 pub begin-spec : {M : Type 1} → statement M
-begin-spec = tie.close (tie.spec wrong-length (λ c κs. search needs) unsound above-last (λ c κs. search needs) live accepted)
+begin-spec =
+    tie.close (tie.spec wrong-length (λ c κs. search needs) unsound above-last (λ c κs. search needs) live accepted)

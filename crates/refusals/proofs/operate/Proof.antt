@@ -10,7 +10,9 @@ use borrow.Author.Tests.{lt-ltb, not-false}
 use Rattle.store.specs.Layout.{base, decode, Packed}
 use Rattle.store.specs.Decisions.{whetherSound}
 use Rattle.protocol.specs.Calls as calls
-use Rattle.refusals.specs.Laws.{applies, passed, other-length, soundness, not-active, is-active, no-object, without-kind, has-kind, not-of-kind, log-full, log-room, no-room, needs-none, has-room, past-length, past-soundness, past-last}
+use Rattle.refusals.specs.Laws.{applies, passed, other-length, soundness, not-active, is-active, no-object}
+use Rattle.refusals.specs.Laws.{without-kind, has-kind, not-of-kind, log-full, log-room, no-room, needs-none}
+use Rattle.refusals.specs.Laws.{has-room, past-length, past-soundness, past-last}
 use Rattle.refusals.proofs.operate.Statement.{statement}
 use Rattle.refusals.proofs.operate.Tie as tie
 
@@ -24,7 +26,8 @@ abbrev opened : tie.Else6 → tie.Else4
 opened c = c .before .before .before .before
 
 is-packed : (c : tie.Else4) → Packed base (book (start c))
-is-packed c = let past = c .before .before .before in past .before .sound .ensures .0 (not-false _ (past .if2 .left)) .packed
+is-packed c =
+    let past = c .before .before .before in past .before .sound .ensures .0 (not-false _ (past .if2 .left)) .packed
 
 -- ---- Past each test
 
@@ -33,44 +36,53 @@ abbrev beforeObject : tie.Start → ℕ → ℕ
 beforeObject c later =
     let t = c .args .transaction in
     cond (calls.wrongLength (book c)) 1
-    (cond (calls.unsound whetherSound (book c)) 4 (cond (calls.aboveLast t) 5 (cond (calls.notActive (decode base (book c)) t) 7 later)))
+    (cond (calls.unsound whetherSound (book c)) 4
+    (cond (calls.aboveLast t) 5 (cond (calls.notActive (decode base (book c)) t) 7 later)))
 
 -- Besides, 8 and 9.
 abbrev beforeLog : tie.Start → ℕ → ℕ
 beforeLog c later =
     let s = decode base (book c) in
-    beforeObject c (cond (calls.withoutKind s (c .args .object)) 8 (cond (calls.notOfKind s (c .args .object) (c .args .number)) 9 later))
+    beforeObject c (cond (calls.withoutKind s (c .args .object)) 8
+    (cond (calls.notOfKind s (c .args .object) (c .args .number)) 9 later))
 
 past-active : (c : tie.Else4) {r later : ℕ} → r ≡ later → r ≡ beforeObject (start c) later
 past-active c rest =
     let inside = c .before .before in
     let called = inside .before .before in
-    past-last (book (start c)) (called .before .if1 .left) (called .sound .ensures) (inside .before .if2 .left) _ (inside .if3 .left)
-    (passed 7 (is-active (book (start c)) _ _ (inside .if3 .left) (c .before .status-word .ensures) (c .if4 .left)) rest)
+    past-last (book (start c)) (called .before .if1 .left) (called .sound .ensures)
+    (inside .before .if2 .left) _ (inside .if3 .left)
+    (passed 7
+    (is-active (book (start c)) _ _ (inside .if3 .left) (c .before .status-word .ensures) (c .if4 .left)) rest)
 
 past-kind : (c : tie.Else6) {r later : ℕ} → r ≡ later
-    → r ≡ beforeObject (start (opened c)) (cond (calls.withoutKind (decode base (book (start (opened c)))) (start (opened c) .args .object)) 8 later)
+    → r ≡ beforeObject (start (opened c))
+    (cond (calls.withoutKind (decode base (book (start (opened c)))) (start (opened c) .args .object)) 8 later)
 past-kind c rest =
     past-active (opened c)
-    (passed 8 (has-kind (book (start (opened c))) _ _ _ (c .before .before .before .if5 .left) (c .before .before .wide .ensures)
+    (passed 8
+    (has-kind (book (start (opened c))) _ _ _ (c .before .before .before .if5 .left) (c .before .before .wide .ensures)
     (c .before .object-kind .ensures) (is-packed (opened c)) (c .if6 .left)) rest)
 
 of-kind : (c : tie.After-is-of) → let start = start (opened (c .before)) in
     calls.notOfKind (decode base (book start)) (start .args .object) (start .args .number) ≡ not (c .is-of .result)
 of-kind c =
     let past = c .before in
-    not-of-kind (book (start (opened past))) _ _ _ (past .before .before .before .if5 .left) (past .before .before .wide .ensures)
+    not-of-kind (book (start (opened past))) _ _ _ (past .before .before .before .if5 .left)
+    (past .before .before .wide .ensures)
     (past .before .object-kind .ensures) _ (c .is-of .ensures)
 
 past-number : (c : tie.Else7) {r later : ℕ} → r ≡ later → r ≡ beforeLog (start (opened (c .before .before))) later
 past-number c rest = past-kind (c .before .before) (passed 9 (of-kind (c .before) ∙ c .if7 .left) rest)
 
 past-log : (c : tie.Else8) {r later : ℕ} → r ≡ later
-    → let start = start (opened (c .before .before .before .before)) in r ≡ beforeLog start (cond (calls.logFull (decode base (book start))) 10 later)
+    → let start = start (opened (c .before .before .before .before)) in
+    r ≡ beforeLog start (cond (calls.logFull (decode base (book start))) 10 later)
 past-log c rest =
     let past = opened (c .before .before .before .before) in
     past-number (c .before .before)
-    (passed 10 (log-room (book (start past)) (is-packed past) (λ e. c .if8 .left (c .before .entry-count .ensures ∙ e))) rest)
+    (passed 10
+    (log-room (book (start past)) (is-packed past) (λ e. c .if8 .left (c .before .entry-count .ensures ∙ e))) rest)
 
 -- ---- Ways out
 
@@ -85,7 +97,8 @@ unsound c k v =
 above-last : tie.Need-returns-3
 above-last c k v =
     let called = c .before .before in
-    past-soundness (book (called .before .before .before)) (called .before .if1 .left) (called .sound .ensures) (c .before .if2 .left)
+    past-soundness (book (called .before .before .before)) (called .before .if1 .left)
+    (called .sound .ensures) (c .before .if2 .left)
     (applies _ _ (lt-ltb 63 _ (c .if3 .taken)))
 
 not-open : tie.Need-returns-4
@@ -103,7 +116,8 @@ of-no-kind : tie.Need-returns-6
 of-no-kind c k v =
     let inside = c .before .before .before in
     past-active (inside .before)
-    (applies _ _ (without-kind (book (start (inside .before))) _ _ _ (inside .if5 .left) (c .before .before .wide .ensures)
+    (applies _ _
+    (without-kind (book (start (inside .before))) _ _ _ (inside .if5 .left) (c .before .before .wide .ensures)
     (c .before .object-kind .ensures) (c .if6 .taken)))
 
 of-another-kind : tie.Need-returns-7
@@ -113,13 +127,15 @@ full : tie.Need-returns-8
 full c k v =
     let past = c .before .before in
     past-number past
-    (applies _ _ (log-full (book (start (opened (past .before .before)))) (sym (c .before .entry-count .ensures) ∙ c .if8 .taken)))
+    (applies _ _
+    (log-full (book (start (opened (past .before .before)))) (sym (c .before .entry-count .ensures) ∙ c .if8 .taken)))
 
 abbrev of : tie.Then9 → tie.Else6
 of c = c .before .before .before .before .before .before
 
 -- What is used by the object is counted at the same number.
-used-there : (c : tie.After-used) → let start = start (opened (of (c .before))) in c .used .result ≡ base .used (decode base (book start)) (start .args .object)
+used-there : (c : tie.After-used) → let start = start (opened (of (c .before))) in
+    c .used .result ≡ base .used (decode base (book start)) (start .args .object)
 used-there c =
     let past = of (c .before) in
     c .used .ensures ∙ ap (base .used (decode base (book (start (opened past))))) (past .before .before .wide .ensures)
@@ -137,7 +153,8 @@ without-room c k v =
     let asked = c .before .before .before in
     let start = start (opened (asked .before .before .before .before .before)) in
     past-log (asked .before)
-    (applies _ _ (no-room (decode base (book start)) (start .args .object) (start .args .number) k v (asked .rows-needed .ensures)
+    (applies _ _
+    (no-room (decode base (book start)) (start .args .object) (start .args .number) k v (asked .rows-needed .ensures)
     (c .before .before .if9 .taken) (used-there (c .before)) (c .if10 .taken)))
 
 accepted : tie.Need-returns-10
@@ -147,7 +164,8 @@ accepted c k v =
     past-log (asked .before)
     (passed _ (⊎-elim (λ w. has-room (decode base (book start)) (start .args .object) (start .args .number) k v
     (used-there (record { before = record { before = asked; if9 = w .0 }; used = w .1 })) (w .2 .left))
-    (λ w. needs-none (decode base (book start)) (start .args .object) (start .args .number) k v (asked .rows-needed .ensures) (w .left)) (c .if9 .came)) refl)
+    (λ w. needs-none (decode base (book start)) (start .args .object) (start .args .number) k v
+    (asked .rows-needed .ensures) (w .left)) (c .if9 .came)) refl)
 
 pub operate-spec : {M : Type 1} → statement M
 operate-spec =

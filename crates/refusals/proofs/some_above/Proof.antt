@@ -18,7 +18,9 @@ loop-holds : tie.Need-loop-holds Inv-loop μ-loop
 loop-holds c = (search needs, λ j l. absurd (not-suc-le-zero l))
 
 returns : tie.Need-returns Inv-loop μ-loop
-returns c = one-above 3 (c .before .before .before .before .args .kinds .now) (c .before .before .before .loop .i) (c .before .before .loop-test .taken)
+returns c =
+    one-above 3 (c .before .before .before .before .args .kinds .now) (c .before .before .before .loop .i)
+    (c .before .before .loop-test .taken)
     (c .if1 .taken)
 
 loop-again : tie.Need-loop-again Inv-loop μ-loop
@@ -29,7 +31,9 @@ loop-again c = (
 )
 
 returns-2 : tie.Need-returns-2 Inv-loop μ-loop
-returns-2 c = none-above 3 (c .before .before .args .kinds .now) (λ j l. c .before .loop .inv .1 j (omega (arith, l, c .loop-test .left)))
+returns-2 c =
+    none-above 3 (c .before .before .args .kinds .now)
+    (λ j l. c .before .loop .inv .1 j (omega (arith, l, c .loop-test .left)))
 
 pub some-above-spec : {M : Type 1} → statement M
 some-above-spec =

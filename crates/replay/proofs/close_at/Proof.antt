@@ -11,7 +11,8 @@ use Rattle.replay.proofs.close_at.Statement.{statement}
 use Rattle.replay.proofs.close_at.Tie as tie
 
 abbrev Inv-loop : tie.InvT-loop
-Inv-loop rows₀ count at i₀ rows i = (i < count) × (length rows ≡ 64) × (removedAt i (take count rows) ≡ removedAt at (take count rows₀))
+Inv-loop rows₀ count at i₀ rows i =
+    (i < count) × (length rows ≡ 64) × (removedAt i (take count rows) ≡ removedAt at (take count rows₀))
 
 abbrev μ-loop : tie.MeasureT-loop
 μ-loop rows₀ count at i₀ rows i = count - i
@@ -32,7 +33,8 @@ returns : tie.Need-returns Inv-loop μ-loop
 returns c =
     let at-loop = c .before .loop in
     let l : length (at-loop .rows) ≡ 64 = at-loop .inv .1 in
-    closed-end (at-loop .rows) (c .before .before .args .count) [] (at-loop .i) (omega arith) (omega arith) ∙ at-loop .inv .2
+    closed-end (at-loop .rows) (c .before .before .args .count) [] (at-loop .i) (omega arith) (omega arith)
+    ∙ at-loop .inv .2
 
 pub close-at-spec : {M : Type 1} → statement M
 close-at-spec =

@@ -28,7 +28,8 @@ returns : tie.Need-returns
 returns c =
     let test = c .before .before .before in
     let start = test .before .before in
-    deleted-removed _ _ (fits start) _ _ (start .pre .1) _ (sym (test .present .ensures) ∙ c .before .before .if1 .taken)
+    deleted-removed _ _ (fits start) _ _ (start .pre .1) _
+    (sym (test .present .ensures) ∙ c .before .before .if1 .taken)
     (c .close-at .ensures)
 
 returns-2 : tie.Need-returns-2

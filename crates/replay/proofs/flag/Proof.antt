@@ -1,4 +1,4 @@
--- `replay::flag`: the two ways out are the two replies.
+-- `replay::flag`: the two ways out are the two answers.
 use Rattle.replay.proofs.flag.Statement.{statement}
 use Rattle.replay.proofs.flag.Tie as tie
 

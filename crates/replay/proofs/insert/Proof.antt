@@ -35,7 +35,8 @@ returns c =
 returns-2 : tie.Need-returns-2
 returns-2 c =
     let start = c .before .before .before in
-    inserted-kept _ _ (fits start) _ _ (start .pre .2) _ (sym (c .before .present .ensures) ∙ not-false _ (c .if1 .left))
+    inserted-kept _ _ (fits start) _ _ (start .pre .2) _
+    (sym (c .before .present .ensures) ∙ not-false _ (c .if1 .left))
 
 pub insert-spec : {M : Type 1} → statement M
 insert-spec =

@@ -7,7 +7,8 @@ use borrow.Author.Needs.{needs}
 use lib.ListN.{length}
 use lib.Seq.{length-take-le}
 use Rattle.replay.specs.Laws.Copies.{nonempty}
-use Rattle.replay.specs.Laws.Numbers.{count-push, count-pop, count-pop-empty, count-insert-same, count-insert-more, count-delete-less, count-delete-same, count-same}
+use Rattle.replay.specs.Laws.Numbers.{count-push, count-pop, count-pop-empty, count-insert-same}
+use Rattle.replay.specs.Laws.Numbers.{count-insert-more, count-delete-less, count-delete-same, count-same}
 use Rattle.replay.proofs.next_count.Statement.{statement}
 use Rattle.replay.proofs.next_count.Tie as tie
 
@@ -28,33 +29,52 @@ present-requires-2 : tie.Need-present-requires-2
 present-requires-2 c κs = c .before .before .before .pre .1 (keyed (omega arith) (omega arith) (c .match .keys4))
 
 sub-result-2 : tie.Need-sub-result-2
-sub-result-2 c = nonempty _ _ (fits (c .before .before .before .before)) _ (sym (c .before .present2 .ensures) ∙ c .if3 .taken)
+sub-result-2 c =
+    nonempty _ _ (fits (c .before .before .before .before)) _ (sym (c .before .present2 .ensures) ∙ c .if3 .taken)
 
 returns : tie.Need-returns
 returns c = count-push (c .before .before .before .args .operation) _ _ (fits (c .before .before)) (c .match .keys1)
 
 returns-2 : tie.Need-returns-2
-returns-2 c = count-pop-empty (c .before .before .before .before .args .operation) _ _ (fits (c .before .before .before)) (c .before .match .keys2) (c .if1 .taken)
+returns-2 c =
+    let filled = c .before .before .before in
+    count-pop-empty (filled .before .args .operation) _ _ (fits filled) (c .before .match .keys2) (c .if1 .taken)
 
 returns-3 : tie.Need-returns-3
-returns-3 c = count-pop (c .before .before .before .before .args .operation) _ _ (fits (c .before .before .before)) (c .before .match .keys2)
+returns-3 c =
+    let filled = c .before .before .before in
+    count-pop (filled .before .args .operation) _ _ (fits filled) (c .before .match .keys2)
 
 returns-4 : tie.Need-returns-4
-returns-4 c = count-insert-same (c .before .before .before .before .before .args .operation) _ _ (fits (c .before .before .before .before)) (c .before .before .match .keys3) (sym (c .before .present .ensures) ∙ c .if2 .taken)
+returns-4 c =
+    let filled = c .before .before .before .before in
+    count-insert-same (filled .before .args .operation) _ _ (fits filled) (c .before .before .match .keys3)
+    (sym (c .before .present .ensures) ∙ c .if2 .taken)
 
 returns-5 : tie.Need-returns-5
-returns-5 c = count-insert-more (c .before .before .before .before .before .args .operation) _ _ (fits (c .before .before .before .before)) (c .before .before .match .keys3) (sym (c .before .present .ensures) ∙ c .if2 .left)
+returns-5 c =
+    let filled = c .before .before .before .before in
+    count-insert-more (filled .before .args .operation) _ _ (fits filled) (c .before .before .match .keys3)
+    (sym (c .before .present .ensures) ∙ c .if2 .left)
 
 returns-6 : tie.Need-returns-6
-returns-6 c = count-delete-less (c .before .before .before .before .before .args .operation) _ _ (fits (c .before .before .before .before)) (c .before .before .match .keys4) (sym (c .before .present2 .ensures) ∙ c .if3 .taken)
+returns-6 c =
+    let filled = c .before .before .before .before in
+    count-delete-less (filled .before .args .operation) _ _ (fits filled) (c .before .before .match .keys4)
+    (sym (c .before .present2 .ensures) ∙ c .if3 .taken)
 
 returns-7 : tie.Need-returns-7
-returns-7 c = count-delete-same (c .before .before .before .before .before .args .operation) _ _ (fits (c .before .before .before .before)) (c .before .before .match .keys4) (sym (c .before .present2 .ensures) ∙ c .if3 .left)
+returns-7 c =
+    let filled = c .before .before .before .before in
+    count-delete-same (filled .before .args .operation) _ _ (fits filled) (c .before .before .match .keys4)
+    (sym (c .before .present2 .ensures) ∙ c .if3 .left)
 
 returns-8 : tie.Need-returns-8
 returns-8 c =
+    let filled = c .before .before in
     let rest = c .match .rest in
-    count-same (c .before .before .before .args .operation) _ _ (fits (c .before .before)) (rest .0 .0 .0 .1) (rest .0 .0 .1) (rest .0 .1) (rest .1)
+    count-same (filled .before .args .operation) _ _ (fits filled) (rest .0 .0 .0 .1) (rest .0 .0 .1) (rest .0 .1)
+    (rest .1)
 
 pub next-count-spec : {M : Type 1} → statement M
 next-count-spec =

@@ -11,7 +11,8 @@ use Rattle.replay.proofs.open_at.Statement.{statement}
 use Rattle.replay.proofs.open_at.Tie as tie
 
 abbrev Inv-loop : tie.InvT-loop
-Inv-loop rows₀ count at carried₀ i₀ rows carried i = (i ≤ count) × (length rows ≡ 64) × (putAt i carried (take count rows) ≡ putAt at carried₀ (take count rows₀))
+Inv-loop rows₀ count at carried₀ i₀ rows carried i =
+    (i ≤ count) × (length rows ≡ 64) × (putAt i carried (take count rows) ≡ putAt at carried₀ (take count rows₀))
 
 abbrev μ-loop : tie.MeasureT-loop
 μ-loop rows₀ count at carried₀ i₀ rows carried i = count - i
@@ -33,7 +34,8 @@ returns c =
     let at-loop = c .before .loop in
     let l : length (at-loop .rows) ≡ 64 = at-loop .inv .1 in
     let e : at-loop .i ≡ c .before .before .args .count = omega arith in
-    opened-end (at-loop .rows) (c .before .before .args .count) (at-loop .carried) [] (omega arith) ∙ (rw e at (at-loop .inv .2))
+    opened-end (at-loop .rows) (c .before .before .args .count) (at-loop .carried) [] (omega arith)
+    ∙ (rw e at (at-loop .inv .2))
 
 pub open-at-spec : {M : Type 1} → statement M
 open-at-spec =

@@ -12,7 +12,8 @@ use Rattle.replay.proofs.position.Statement.{statement}
 use Rattle.replay.proofs.position.Tie as tie
 
 abbrev Inv-loop : tie.InvT-loop
-Inv-loop rows count key filled at₀ at = (at ≤ length filled) × (at + positionOf key (map rowOf (drop at filled)) ≡ positionOf key (map rowOf filled))
+Inv-loop rows count key filled at₀ at =
+    (at ≤ length filled) × (at + positionOf key (map rowOf (drop at filled)) ≡ positionOf key (map rowOf filled))
 
 abbrev μ-loop : tie.MeasureT-loop
 μ-loop rows count key filled at₀ at = length filled - at
@@ -32,18 +33,24 @@ mul-if1 c = omega (arith, slice-aggregate-filled (c .before .before))
 returns : tie.Need-returns Inv-loop μ-loop
 returns c =
     let at-loop = c .before .before .before in
-    sym (scan-found (key at-loop) (filled at-loop) (at-loop .loop .at) (c .before .before .loop-test .taken) (omega arith)) ∙ at-loop .loop .inv .1
+    sym (scan-found (key at-loop) (filled at-loop) (at-loop .loop .at) (c .before .before .loop-test .taken)
+    (omega arith)) ∙ at-loop .loop .inv .1
 
 add-at : tie.Need-add-at Inv-loop μ-loop
 add-at c = omega (arith, slice-aggregate-filled (c .before .before .before .before))
 
 loop-again : tie.Need-loop-again Inv-loop μ-loop
 loop-again c =
-    let at-loop = c .before .before .before in
-    (search needs, scan-on (key at-loop) (filled at-loop) (at-loop .loop .at) (c .before .before .loop-test .taken) (omega arith) ∙ at-loop .loop .inv .1)
+    let at-loop = c .before .before .before in (
+      search needs,
+      scan-on (key at-loop) (filled at-loop) (at-loop .loop .at) (c .before .before .loop-test .taken) (omega arith)
+          ∙ at-loop .loop .inv .1,
+    )
 
 returns-2 : tie.Need-returns-2 Inv-loop μ-loop
-returns-2 c = sym (scan-past (key (c .before)) (filled (c .before)) (c .before .loop .at) (c .loop-test .left)) ∙ c .before .loop .inv .1
+returns-2 c =
+    sym (scan-past (key (c .before)) (filled (c .before)) (c .before .loop .at) (c .loop-test .left))
+    ∙ c .before .loop .inv .1
 
 pub position-spec : {M : Type 1} → statement M
 position-spec =

@@ -5,7 +5,9 @@ use Rattle.replay.proofs.present.Statement.{statement}
 use Rattle.replay.proofs.present.Tie as tie
 
 returns : tie.Need-returns
-returns c = present-here (c .before .before .args .key) (c .before .before .args .rows .now) _ (c .before .before .pre) (c .before .if1 .taken)
+returns c =
+    let start = c .before .before in
+    present-here (start .args .key) (start .args .rows .now) _ (start .pre) (c .before .if1 .taken)
 
 returns-2 : tie.Need-returns-2
 returns-2 c = present-past (c .before .args .key) (c .before .args .rows .now) _ (c .before .pre) (c .if1 .left)

@@ -11,4 +11,6 @@ returns-2 : tie.Need-returns-2
 returns-2 c = top-some (c .before .before .args .rows .now) (c .before .if1 .left)
 
 pub top-spec : {M : Type 1} → statement M
-top-spec = tie.close (tie.spec returns (λ c. search needs) (λ c. search needs) (λ c. search needs) (λ c. search needs) returns-2)
+top-spec =
+    tie.close (tie.spec returns (λ c. search needs) (λ c. search needs) (λ c. search needs)
+    (λ c. search needs) returns-2)

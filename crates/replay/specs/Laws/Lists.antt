@@ -10,12 +10,14 @@ use lib.Seq.{length-take-le, take-take, take-set-lt, take-suc-set, getD-take}
 use Rattle.replay.specs.Replay.{putAt, removedAt}
 
 module _ {A : Type 0} where
-  pub put-next : (xs : List A) (i : ℕ) (x d : A) → i < length xs → putAt (suc i) (getD xs i d) (set xs i x) ≡ putAt i x xs
+  pub put-next : (xs : List A) (i : ℕ) (x d : A) → i < length xs
+      → putAt (suc i) (getD xs i d) (set xs i x) ≡ putAt i x xs
   put-next [] i x d h = absurd (not-suc-le-zero h)
   put-next (y ∷ ys) zero x d h = refl
   put-next (y ∷ ys) (suc i) x d h = ap (λ q. y ∷ q) (put-next ys i x d (le-of-suc-le-suc h))
 
-  pub removed-next : (xs : List A) (i : ℕ) (d : A) → suc i < length xs → removedAt (suc i) (set xs i (getD xs (suc i) d)) ≡ removedAt i xs
+  pub removed-next : (xs : List A) (i : ℕ) (d : A) → suc i < length xs
+      → removedAt (suc i) (set xs i (getD xs (suc i) d)) ≡ removedAt i xs
   removed-next [] i d h = absurd (not-suc-le-zero h)
   removed-next (y ∷ []) i d h = absurd (not-suc-le-zero (le-of-suc-le-suc h))
   removed-next (y ∷ z ∷ ys) zero d h = refl
@@ -46,7 +48,8 @@ module _ {A : Type 0} where
 
   -- A gap opened in the first n elements: what is carried goes in, what stood there is carried on.
   module _ (xs : List A) (n : ℕ) (x d : A) where
-    pub opened-turn : (i : ℕ) → i < n → n ≤ length xs → putAt (i + 1) (getD xs i d) (take n (set xs i x)) ≡ putAt i x (take n xs)
+    pub opened-turn : (i : ℕ) → i < n → n ≤ length xs
+        → putAt (i + 1) (getD xs i d) (take n (set xs i x)) ≡ putAt i x (take n xs)
     opened-turn i h m =
         rw (add-one, take-set-lt n xs i x h, ← getD-take n xs i d h)
         (put-next (take n xs) i x d (rw (length-take-le n xs m) h))
@@ -58,7 +61,8 @@ module _ {A : Type 0} where
 
   -- The gap closed: what stands at the next place comes down.
   module _ (xs : List A) (n : ℕ) (d : A) where
-    pub closed-turn : (i : ℕ) → i + 1 < n → n ≤ length xs → removedAt (i + 1) (take n (set xs i (getD xs (i + 1) d))) ≡ removedAt i (take n xs)
+    pub closed-turn : (i : ℕ) → i + 1 < n → n ≤ length xs
+        → removedAt (i + 1) (take n (set xs i (getD xs (i + 1) d))) ≡ removedAt i (take n xs)
     closed-turn i h m =
         rw (take-set-lt n xs i _ (omega arith), ← getD-take n xs (i + 1) d h, add-one)
         (removed-next (take n xs) i d (rw (length-take-le n xs m) (omega arith)))

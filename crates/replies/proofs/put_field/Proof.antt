@@ -13,9 +13,12 @@ put-decimal-requires c κs =
 returns : tie.Need-returns
 returns c =
     let a = c .before .before .before .before .before .before .before .before .before .before in
-    let put = field-put (a .args .out .now) (a .args .at) (a .args .number) (a .pre) (c .before .before .before .before .before .before .put .ensures)
+    let put =
+    field-put (a .args .out .now) (a .args .at) (a .args .number) (a .pre)
+    (c .before .before .before .before .before .before .put .ensures)
     (c .before .before .put-decimal .ensures) in
     (put, omega (arith, put .behind, field-length 10 (a .args .number) (omega arith) (omega (arith, a .fits .number))))
 
 pub put-field-spec : {M : Type 1} → statement M
-put-field-spec = tie.close (tie.spec (λ c. search needs) (λ c κs. search needs) put-decimal-requires (λ c. search needs) returns)
+put-field-spec =
+    tie.close (tie.spec (λ c. search needs) (λ c κs. search needs) put-decimal-requires (λ c. search needs) returns)

@@ -23,28 +23,35 @@ loop-holds c = let a = c .before .before .before .args in (omega arith, start (a
 abbrev loop : tie.After-wide Inv-loop μ-loop → tie.At-loop Inv-loop μ-loop
 loop c = c .before .before .before .before
 
-within : (c : tie.In-loop Inv-loop μ-loop) → c .before .loop .i < length (c .before .before .before .before .before .args .list .now)
+within : (c : tie.In-loop Inv-loop μ-loop)
+    → c .before .loop .i < length (c .before .before .before .before .before .args .list .now)
 within c = omega (arith, c .loop-test .taken, c .before .before .least .ensures)
 
-byte : (c : tie.After-wide Inv-loop μ-loop) → getD (loop c .before .before .before .before .args .list .now) (loop c .loop .i) 0 < 256
+byte : (c : tie.After-wide Inv-loop μ-loop)
+    → getD (loop c .before .before .before .before .args .list .now) (loop c .loop .i) 0 < 256
 byte c = omega (arith, c .before .shared-slice-known2 .given (loop c .loop .i))
 
 put-field-requires : tie.Need-put-field-requires Inv-loop μ-loop
 put-field-requires c κs =
     subst⁻¹ (λ (n : ℕ). loop c .loop .end + length (spaced (n ∷ [])) ≤ length (loop c .loop .out)) (c .wide .ensures)
-    (next-fits (loop c .loop .inv .1) (within (c .before .before .before)) (loop c .before .before .before .before .pre) (byte c))
+    (next-fits (loop c .loop .inv .1) (within (c .before .before .before))
+    (loop c .before .before .before .before .pre) (byte c))
 
 loop-again : tie.Need-loop-again Inv-loop μ-loop
 loop-again c =
     let at = c .before .before .before in
     let put = c .before .before .put-field in (
       omega (arith, at .before .before .before .loop-test .taken),
-      turn (loop at .loop .inv .1) (within (at .before .before .before)) (loop at .before .before .before .before .pre) (byte at)
-          (subst (λ (n : ℕ). Put (loop at .loop .out) (loop at .loop .end) (spaced (n ∷ [])) (put .last .0) (put .result)) (at .wide .ensures) (put .ensures .0)),
+      turn (loop at .loop .inv .1) (within (at .before .before .before))
+          (loop at .before .before .before .before .pre) (byte at)
+          (subst (λ (n : ℕ). Put (loop at .loop .out) (loop at .loop .end) (spaced (n ∷ [])) (put .last .0)
+          (put .result)) (at .wide .ensures) (put .ensures .0)),
     )
 
 same-length : tie.Need-same-length Inv-loop μ-loop
-same-length c = kept (c .before .loop .inv .1) (omega (arith, c .before .before .least .ensures)) (c .before .before .before .before .before .pre)
+same-length c =
+    kept (c .before .loop .inv .1) (omega (arith, c .before .before .least .ensures))
+    (c .before .before .before .before .before .pre)
 
 returns : tie.Need-returns Inv-loop μ-loop
 returns c =

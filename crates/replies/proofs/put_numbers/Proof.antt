@@ -32,7 +32,8 @@ value-fits : tie.Need-put-field-requires-2
 value-fits c κs =
     let a = c .before .before .before .before .before .before .before .before .before .before in
     let code = c .before .before .before .put-field in
-    field-fits (code .result) _ _ (omega (arith, c .before .before .before .before .before .known-told .given .1 .0)) (omega (arith, a .pre .0, code .ensures .1, code .kept .0))
+    field-fits (code .result) _ _ (omega (arith, c .before .before .before .before .before .known-told .given .1 .0))
+    (omega (arith, a .pre .0, code .ensures .1, code .kept .0))
 
 -- ---- What each case leaves
 
@@ -48,45 +49,57 @@ finished c =
 
 answered : tie.Need-returns-2
 answered c =
-    let a = c .before .before .before .before .before .before .before .before .before .before .before .before .before in
+    let told = c .before .before .before .before .before .before .before .before in
+    let a = told .before .before .before .before .before in
     let code = c .before .before .before .before .before .before .put-field in
     let value = c .before .before .put-field2 in
-    numbered _ (c .before .before .before .before .before .before .before .before .before .response .given .1) (a .args .list .now)
-    (two-fields _ _ (field-fits (a .args .at) _ _ (omega (arith, c .before .before .before .before .before .before .before .before .known-told .given .0)) (omega (arith, a .pre .0))) (code .ensures .0)
-    (value .ensures .0)) (omega (arith, code .ensures .1, value .ensures .1))
+    numbered _ (told .before .reply .given .1) (a .args .list .now)
+    (two-fields _ _
+    (field-fits (a .args .at) _ _ (omega (arith, told .known-told .given .0)) (omega (arith, a .pre .0)))
+    (code .ensures .0) (value .ensures .0))
+    (omega (arith, code .ensures .1, value .ensures .1))
 
 wait : tie.Need-returns-3
 wait c =
+    let a = c .before .before .before .before .before .before .before .before .before .args in
     let put = c .before .before .put-field3 .ensures in
-    numbered _ (c .before .before .before .before .before .response2 .given .1) (c .before .before .before .before .before .before .before .before .before .args .list .now) (put .0) (omega (arith, put .1))
+    numbered _ (c .before .before .before .before .before .reply2 .given .1) (a .list .now) (put .0)
+    (omega (arith, put .1))
 
 counted : tie.Need-returns-8
 counted c =
+    let a = c .before .before .before .before .before .before .before .before .before .args in
     let put = c .before .before .put-field4 .ensures in
-    numbered _ (c .before .before .before .before .before .response6 .given .1) (c .before .before .before .before .before .before .before .before .before .args .list .now) (put .0) (omega (arith, put .1))
+    numbered _ (c .before .before .before .before .before .reply6 .given .1) (a .list .now) (put .0)
+    (omega (arith, put .1))
 
 refused : tie.Need-returns-9
 refused c =
+    let a = c .before .before .before .before .before .before .before .before .before .args in
     let put = c .before .before .put-field5 .ensures in
-    numbered _ (c .before .before .before .before .before .response7 .given .1) (c .before .before .before .before .before .before .before .before .before .args .list .now) (put .0) (omega (arith, put .1))
+    numbered _ (c .before .before .before .before .before .reply7 .given .1) (a .list .now) (put .0)
+    (omega (arith, put .1))
 
 committed : tie.Need-returns-5
 committed c =
     let a = c .before .before .before .before .before .before .before .before .before in
     let put = c .before .before .put-front .ensures in
-    numbered _ (c .before .before .before .before .before .response3 .given .1) (a .args .list .now) (put .0) (omega (arith, put .1, a .pre .1))
+    numbered _ (c .before .before .before .before .before .reply3 .given .1) (a .args .list .now) (put .0)
+    (omega (arith, put .1, a .pre .1))
 
 circle : tie.Need-returns-6
 circle c =
     let a = c .before .before .before .before .before .before .before .before .before in
     let put = c .before .before .put-front2 .ensures in
-    numbered _ (c .before .before .before .before .before .response4 .given .1) (a .args .list .now) (put .0) (omega (arith, put .1, a .pre .1))
+    numbered _ (c .before .before .before .before .before .reply4 .given .1) (a .args .list .now) (put .0)
+    (omega (arith, put .1, a .pre .1))
 
 cancelled : tie.Need-returns-7
 cancelled c =
     let a = c .before .before .before .before .before .before .before .before .before in
     let put = c .before .before .put-front3 .ensures in
-    numbered _ (c .before .before .before .before .before .response5 .given .1) (a .args .list .now) (put .0) (omega (arith, put .1, a .pre .1))
+    numbered _ (c .before .before .before .before .before .reply5 .given .1) (a .args .list .now) (put .0)
+    (omega (arith, put .1, a .pre .1))
 
 pub put-numbers-spec : {M : Type 1} → statement M
 put-numbers-spec =

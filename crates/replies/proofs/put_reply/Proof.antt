@@ -1,7 +1,7 @@
 -- `replies::put_reply`: the word, then the numbers behind it.
 use native.Mathlib.Omega.{arith}
 use borrow.Author.Needs.{needs}
-use Rattle.scheduler.specs.Responses.{responseOf}
+use Rattle.protocol.specs.ReplyOf.{replyOf}
 use Rattle.text.specs.Laws.Putting.{then}
 use Rattle.replies.specs.Printed.{printed}
 use Rattle.replies.specs.Laws.Printing.{word-length}
@@ -12,7 +12,7 @@ put-numbers-requires : tie.Need-put-numbers-requires
 put-numbers-requires c κs =
     let a = c .before .before .before .before .before .before .before in
     let word = c .before .before .before .put-word in
-    (omega (arith, word .ensures .behind, word .kept .0, word-length (responseOf (a .args .response)), a .pre .0), a .pre .1)
+    (omega (arith, word .ensures .behind, word .kept .0, word-length (replyOf (a .args .reply)), a .pre .0), a .pre .1)
 
 returns : tie.Need-returns
 unfolding printed
@@ -20,8 +20,10 @@ returns c =
     let a = c .before .before .before .before .before .before .before .before .before .before in
     let word = c .before .before .before .before .before .before .put-word in
     let numbers = c .before .before .put-numbers in
-    let short = word-length (responseOf (a .args .response)) in
-    (then (word .ensures) (omega (arith, short, a .pre .0)) (numbers .ensures .0), omega (arith, short, word .ensures .behind, numbers .ensures .1))
+    let short = word-length (replyOf (a .args .reply)) in (
+      then (word .ensures) (omega (arith, short, a .pre .0)) (numbers .ensures .0),
+      omega (arith, short, word .ensures .behind, numbers .ensures .1),
+    )
 
 pub put-reply-spec : {M : Type 1} → statement M
 put-reply-spec = tie.close (tie.spec (λ c κs. search needs) put-numbers-requires (λ c. search needs) returns)

@@ -14,22 +14,27 @@ wait : tie.Need-returns-3
 wait c = worded _ (c .before .before .before .before .before .enum-told3 .given .1) (c .before .before .put3 .ensures)
 
 finished : tie.Need-returns-4
-finished c = worded _ (c .before .before .before .before .before .enum-told4 .given .1) (c .before .before .put4 .ensures)
+finished c =
+    worded _ (c .before .before .before .before .before .enum-told4 .given .1) (c .before .before .put4 .ensures)
 
 committed : tie.Need-returns-5
-committed c = worded _ (c .before .before .before .before .before .enum-told5 .given .1) (c .before .before .put5 .ensures)
+committed c =
+    worded _ (c .before .before .before .before .before .enum-told5 .given .1) (c .before .before .put5 .ensures)
 
 circle : tie.Need-returns-6
 circle c = worded _ (c .before .before .before .before .before .enum-told6 .given .1) (c .before .before .put6 .ensures)
 
 cancelled : tie.Need-returns-7
-cancelled c = worded _ (c .before .before .before .before .before .enum-told7 .given .1) (c .before .before .put7 .ensures)
+cancelled c =
+    worded _ (c .before .before .before .before .before .enum-told7 .given .1) (c .before .before .put7 .ensures)
 
 counted : tie.Need-returns-8
-counted c = worded _ (c .before .before .before .before .before .enum-told8 .given .1) (c .before .before .put8 .ensures)
+counted c =
+    worded _ (c .before .before .before .before .before .enum-told8 .given .1) (c .before .before .put8 .ensures)
 
 refused : tie.Need-returns-9
-refused c = worded _ (c .before .before .before .before .before .enum-told9 .given .1) (c .before .before .put9 .ensures)
+refused c =
+    worded _ (c .before .before .before .before .before .enum-told9 .given .1) (c .before .before .put9 .ensures)
 
 pub put-word-spec : {M : Type 1} → statement M
 put-word-spec =

@@ -4,12 +4,12 @@ use Prim.Native.Char.{code}
 use mathlib.Core.Path.{refl}
 use mathlib.Core.List.{List, [], _∷_}
 use native.Mathlib.Omega.{arith}
-use Rattle.protocol.specs.Replies.{Response, ok, answered, wait, finished, committed, circle, cancelled, counted, refused}
+use Rattle.protocol.specs.Replies.{Reply, ok, answered, wait, finished, committed, circle, cancelled, counted, refused}
 use Rattle.text.specs.Text.{decimal}
 use Rattle.text.specs.Laws.Lines.{Without, without-computed, without-append, decimal-without}
-use Rattle.replies.specs.Printed.{wordOf, numbersOf, spaced, printed}
+use Rattle.replies.specs.Printed.{wordOf, printedNumbers, spaced, printed}
 
-word-without : (reply : Response) → Without (code "\n") (wordOf reply)
+word-without : (reply : Reply) → Without (code "\n") (wordOf reply)
 word-without ok = without-computed (code "\n") (wordOf ok) refl
 word-without (answered reply) = without-computed (code "\n") (wordOf (answered reply)) refl
 word-without (wait owner) = without-computed (code "\n") (wordOf (wait owner)) refl
@@ -22,10 +22,14 @@ word-without (refused reason) = without-computed (code "\n") (wordOf (refused re
 
 fields-without : (numbers : List ℕ) → Without (code "\n") (spaced numbers)
 fields-without [] = tt
-fields-without (n ∷ numbers) =
-    (refl, without-append (code "\n") (decimal n) (spaced numbers) (decimal-without (code "\n") (omega arith) n) (fields-without numbers))
+fields-without (n ∷ numbers) = (
+  refl,
+  without-append (code "\n") (decimal n) (spaced numbers) (decimal-without (code "\n") (omega arith) n)
+      (fields-without numbers),
+)
 
-pub printed-without : (reply : Response) (list : List ℕ) → Without (code "\n") (printed reply list)
+pub printed-without : (reply : Reply) (list : List ℕ) → Without (code "\n") (printed reply list)
 unfolding printed
 printed-without reply list =
-    without-append (code "\n") (wordOf reply) (spaced (numbersOf reply list)) (word-without reply) (fields-without (numbersOf reply list))
+    without-append (code "\n") (wordOf reply) (spaced (printedNumbers reply list)) (word-without reply)
+    (fields-without (printedNumbers reply list))

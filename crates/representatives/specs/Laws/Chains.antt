@@ -9,10 +9,10 @@ use lib.Dec.{ltb}
 use lib.ListN.{getD, set, replicate, length-set, length-replicate, getD-replicate}
 use lib.Seq.{getD-set-same, getD-set-other}
 use Rattle.operations.specs.Laws.Cases.{split, same}
-use Rattle.representatives.specs.Representatives.{Alike, First, Representative, Reached, Latest, slotOf}
-use Rattle.representatives.specs.Representatives.{slotAt, In, Chained}
+use Rattle.representatives.specs.Representatives.{Alike, First, Representative, DownTo, Latest, slotOf}
+use Rattle.representatives.specs.Representatives.{slotAt, InChain, Chained}
 
-one-slot : (w : List ℕ) (i j : ℕ) → Representative w i j → In w (slotAt w i) j
+one-slot : (w : List ℕ) (i j : ℕ) → Representative w i j → InChain w (slotAt w i) j
 one-slot w i j r = (r .first, ap₂ slotOf (r .alike .0) (r .alike .1))
 
 -- ---- One entry more
@@ -40,13 +40,13 @@ chained-none w n m e f =
     record {
       chains = length-replicate n 0 ∙ e;
       entries = length-replicate m 0 ∙ f;
-      latest = λ s l. rw (getD-replicate {A = ℕ} n s 0 0 (omega arith)) (latest-none (In w s));
+      latest = λ s l. rw (getD-replicate {A = ℕ} n s 0 0 (omega arith)) (latest-none (InChain w s));
       before = λ j l. absurd (omega arith);
     }
 
 -- On the way back: entry p - 1 is in the chain of entry i, and no entry from p on represents it.
 abbrev pub Way : List ℕ → ℕ → ℕ → Type 0
-Way w i p = Reached (In w (slotAt w i)) (Representative w i) i p
+Way w i p = DownTo (InChain w (slotAt w i)) (Representative w i) i p
 
 module _ (w : List ℕ) (i : ℕ) (heads links : List ℕ) (c : Chained w i heads links) where
   pub chained-more : (s : ℕ) → s ≡ slotAt w i → s < 256 → i < 256 → First w i
@@ -58,10 +58,10 @@ module _ (w : List ℕ) (i : ℕ) (heads links : List ℕ) (c : Chained w i head
         latest = λ t m.
             same t s
             (λ (e : t ≡ s). rw (e, getD-set-same heads s (i + 1) 0 (omega (arith, c .chains)))
-            (latest-new (In w s) i (first, sym own)))
+            (latest-new (InChain w s) i (first, sym own)))
             (λ (e : t ≡ s → ⊥).
             rw (getD-set-other heads s t (i + 1) 0 e)
-            (latest-kept (In w t) i (getD heads t 0) (c .latest t m) (λ q. e (sym (q .1) ∙ sym own))));
+            (latest-kept (InChain w t) i (getD heads t 0) (c .latest t m) (λ q. e (sym (q .1) ∙ sym own))));
         before = λ j m f.
             same j i
             (λ (e : j ≡ i).
@@ -78,7 +78,7 @@ module _ (w : List ℕ) (i : ℕ) (heads links : List ℕ) (c : Chained w i head
       record {
         chains = c .chains;
         entries = c .entries;
-        latest = λ s l. latest-kept (In w s) i (getD heads s 0) (c .latest s l) (λ q. other (q .0));
+        latest = λ s l. latest-kept (InChain w s) i (getD heads s 0) (c .latest s l) (λ q. other (q .0));
         before = λ j m f. same j i (λ (e : j ≡ i). absurd (other (subst (First w) e f)))
             (λ (e : j ≡ i → ⊥). c .before j (omega arith) f);
       }
@@ -93,9 +93,10 @@ module _ (w : List ℕ) (i : ℕ) (heads links : List ℕ) (c : Chained w i head
       }
 
   module _ (p : ℕ) (r : Way w i p) (some : p ≡ 0 → ⊥) where
-    step : Latest (In w (slotAt w i)) (p - 1) (getD links p 0)
+    step : Latest (InChain w (slotAt w i)) (p - 1) (getD links p 0)
     step =
-        subst₂ (λ (s q : ℕ). Latest (In w s) (p - 1) (getD links q 0)) (r .such (p - 1) (omega arith) .1) (omega arith)
+        subst₂ (λ (s q : ℕ). Latest (InChain w s) (p - 1) (getD links q 0))
+        (r .such (p - 1) (omega arith) .1) (omega arith)
         (c .before (p - 1) (omega (arith, r .within)) (r .such (p - 1) (omega arith) .0))
 
     -- The entry before in the chain.

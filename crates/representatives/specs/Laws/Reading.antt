@@ -9,11 +9,11 @@ use Rattle.store.specs.Layout.{word, entryAt, operationAt, base, decode, Packed
 use Rattle.store.specs.Soundness.{EntriesLive, EntriesFit}
 use Rattle.store.specs.Laws.Lists.{all-each}
 use Rattle.store.specs.Laws.Reading.{live-below, kind-below}
-use Rattle.representatives.specs.Representatives.{transactionAt, objectAt, Readable}
+use Rattle.representatives.specs.Representatives.{entryTransaction, entryObject, Readable}
 
 module _ (w : List ℕ) where
   pub of-kind : EntriesFit (decode base w) → (i : ℕ) → i < word w 0
-      → objectOf (decode base w) (objectAt w i) .kind ≡ some (kindOf (operationAt w i))
+      → objectOf (decode base w) (entryObject w i) .kind ≡ some (kindOf (operationAt w i))
   of-kind =
       all-each (λ (l : Logged). objectOf (decode base w) (l .object) .kind ≡ some (kindOf (l .entry .operation)))
       (word w 0) (entryAt w)
@@ -25,9 +25,9 @@ module _ (w : List ℕ) where
         entries = packed .log .entries;
         stored = packed .log .asStored;
         transactions = λ i l.
-            live-below base w (transactionAt w i)
+            live-below base w (entryTransaction w i)
             (all-each (λ (e : Logged). Live (decode base w) (e .entry .transaction)) (word w 0) (entryAt w) live i l);
-        objects = λ i l. kind-below base w (objectAt w i) (kindOf (operationAt w i)) (of-kind fits i l);
+        objects = λ i l. kind-below base w (entryObject w i) (kindOf (operationAt w i)) (of-kind fits i l);
         kinds = λ i j l m e.
             Option·some-injective (kindOf (operationAt w j)) (kindOf (operationAt w i))
             (sym (of-kind fits j m) ∙ (ap (λ (o : ℕ). objectOf (decode base w) o .kind) e ∙ of-kind fits i l));

@@ -3,14 +3,14 @@ use Prim.Native.Nat.{ℕ, _<_}
 use mathlib.Core.Path.{sym, ap, _∙_, subst}
 use borrow.Author.Needs.{needs}
 use Rattle.operations.specs.Operations as model
-use Rattle.operations.specs.Stored.{asReply}
+use Rattle.operations.specs.Stored.{answerOf}
 use Rattle.store.specs.Layout.{base, decode, entryAt, word}
 use Rattle.store.specs.Decisions.{whetherSound}
 use Rattle.store.specs.Laws.Lists.{length-tabulate}
 use Rattle.store.specs.Laws.Reading.{kind-below}
 use Rattle.answers.specs.Answers.{Requested}
 use Rattle.answers.specs.Laws.Requests.{answer-to}
-use Rattle.requests.specs.Laws.Rules.{named}
+use Rattle.waits.specs.Laws.Rules.{named}
 use Rattle.protocol.specs.Calls.{request, answerTo}
 use Rattle.protocol.specs.Terms.{OperateAccepted}
 use Rattle.protocol.specs.Laws.Reasons.{operate-accepted}
@@ -110,12 +110,12 @@ answers c =
     ∙ answer-to (a .book .now) (at .wide .result) (subst (λ (n : ℕ). n < 16) (sym (at .wide .ensures)) (within past))
     (request .request .result) o
     (named (request .request .result) o stored)
-    ∙ ap (answerTo base o (decode base (a .book .now))) (at .wide .ensures) in
+    ∙ ap (answerTo o (decode base (a .book .now))) (at .wide .ensures) in
     operate-answers (a .book .now) (a .transaction) (a .object) (a .operation) (a .key) (a .value) _
     (past .before .operate .ensures (a .key) (a .value))
     (past .if1 .left)
     _ (blocked .blocker .ensures o stored) (answered .before .before .before .if2 .left)
-    (asReply (answered .answer .result)) given
+    (answerOf (answered .answer .result)) given
     _ (appended .append .ensures o stored)
 
 pub operate-spec : {M : Type 1} → statement M

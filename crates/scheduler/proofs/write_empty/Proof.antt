@@ -1,8 +1,9 @@
 -- `scheduler::write_empty`: zeros, then the kinds one by one.
-use Prim.Native.Nat.{ℕ, _-_, _≤_}
+use Prim.Native.Nat.{ℕ, _+_, _-_, _≤_}
 use mathlib.Core.Path.{_≡_, sym, _∙_, subst}
 use native.Mathlib.Omega.{arith}
 use borrow.Author.Needs.{needs}
+use lib.ListN.{set, getD}
 use Rattle.operations.specs.Operations.{All}
 use Rattle.store.specs.Laws.Words.{all-getD}
 use Rattle.protocol.specs.Laws.Reasons.{none-above}
@@ -40,15 +41,20 @@ cast c =
     )
 
 write : tie.Need-slice-write-book Inv-loop μ-loop
-write c = omega (arith, c .before .loop-test .taken, c .before .before .loop .inv .1 .words)
+write c =
+    let in-loop = c .before .before in
+    omega (arith, in-loop .loop-test .taken, in-loop .before .loop .inv .1 .words, c .object-start .ensures)
 
 loop-again : tie.Need-loop-again Inv-loop μ-loop
 loop-again c =
-    let at-loop = c .before .before in (
+    let in-loop = c .before .before in
+    let at-loop = in-loop .before in
+    let kinds = start at-loop .args .kinds .now in
+    let object = at-loop .loop .object in (
       search needs,
-      one-written (start at-loop .args .kinds .now) (at-loop .loop .object) (at-loop .loop .book)
-          (c .before .loop-test .taken)
-          (at-loop .loop .inv .1),
+      subst (λ (s : ℕ). Written kinds (object + 1) (set (at-loop .loop .book) s (getD kinds object 0)))
+          (sym (c .object-start .ensures))
+          (one-written kinds object (at-loop .loop .book) (in-loop .loop-test .taken) (at-loop .loop .inv .1)),
     )
 
 same-length : tie.Need-same-length Inv-loop μ-loop
@@ -72,8 +78,7 @@ write-empty-spec =
     loop-holds
     inside
     cast
-    (λ c. search needs)
-    (λ c. search needs)
+    (λ c κs. search needs)
     (λ c. search needs)
     write
     (λ c. search needs)

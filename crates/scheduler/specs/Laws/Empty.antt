@@ -8,6 +8,7 @@ use lib.ListN.{length, getD, set, replicate, length-set, length-map, length-repl
 use lib.Seq.{getD-set-same, getD-set-other}
 use Rattle.operations.specs.Operations.{All}
 use Rattle.operations.specs.Laws.Cases.{same}
+use Rattle.store.specs.Layout.{BookLong}
 use Rattle.store.specs.Store.{absent, Object}
 use Rattle.store.specs.Layout.{base, word, tabulate, encode, decode, readStatus, readKind, statusAt, objectStart}
 use Rattle.store.specs.Layout.{readObject, rowAt, rowsAt, entryAt, ObjectPacked, Packed}
@@ -18,11 +19,11 @@ use Rattle.protocol.specs.Calls.{empty}
 
 -- The kinds of the first n objects stand, and all else is 0.
 pub record Written (kinds : List ℕ) (n : ℕ) (w : List ℕ) : Type 0 where
-  pub words : length w ≡ 3_937
+  pub words : BookLong w
   pub kind : (o : ℕ) → o < n → word w (objectStart o) ≡ getD kinds o 0
   pub rest : (p : ℕ) → ((o : ℕ) → o < n → p ≡ objectStart o → ⊥) → word w p ≡ 0
 
-pub none-written : (kinds w zeros : List ℕ) → length w ≡ 3_937 → zeros ≡ replicate (length w) 0 → Written kinds 0 zeros
+pub none-written : (kinds w zeros : List ℕ) → BookLong w → zeros ≡ replicate (length w) 0 → Written kinds 0 zeros
 none-written kinds w zeros size e =
     record {
       words = ap length e ∙ length-replicate (length w) 0 ∙ size;

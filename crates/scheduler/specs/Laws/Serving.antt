@@ -1,18 +1,18 @@
 -- What a call leaves, from the reason that the code finds: refused where there is one, and else served.
-use Prim.Native.Nat.{ℕ, zero, suc, _+_, _≤_, _<_}
+use Prim.Native.Nat.{ℕ, zero, suc, _+_, _*_, _≤_, _<_}
 use mathlib.Core.Path.{_≡_, refl, sym, ap, ap₂, _∙_}
 use mathlib.Core.Bool.{Bool, true, false, decide}
 use mathlib.Core.Logic.{_↔_}
 use mathlib.Core.Option.{Option, none, some, Option·none-ne-some}
 use mathlib.Core.List.{List, [], _∷_, map}
 use native.Mathlib.Omega.{arith}
-use lib.ListN.{length, List·getD-eq-default}
+use lib.ListN.{length, take, drop, List·getD-eq-default}
 use Rattle.operations.specs.declared.Operation as words
-use Rattle.operations.specs.Operations.{Operation, Reply, kindOf, stored, reduceKey, numbered as operations}
-use Rattle.pairs.specs.Pairs.{Numbered}
+use Rattle.operations.specs.Operations.{Operation, Answer, kindOf, stored, reduceKey, numbered as operations}
+use Rattle.operations.specs.PairRules.{Numbered}
 use Rattle.store.specs.Store.{Status, active, pseudoCommitted, Store, objectOf, onObject}
 use Rattle.store.specs.Store.{pseudoCommittedCount}
-use Rattle.store.specs.Layout.{base, encode, decode, readStatus, joined, rowWords}
+use Rattle.store.specs.Layout.{base, encode, decode, objectStart, readStatus, joined, rowWords}
 use Rattle.store.specs.Dependency.{Ready, OnCycle}
 use Rattle.store.specs.Soundness.{Sound}
 use Rattle.store.specs.Decisions.{whetherSound, whetherReady, whetherOnCycle}
@@ -26,15 +26,16 @@ use Rattle.layout.specs.Laws.{names-nobody, names-somebody}
 use Rattle.log.specs.Log.{logged, StoredAs}
 use Rattle.answers.specs.Answers.{Requested}
 use Rattle.answers.specs.Laws.Whole.{rows-read}
-use Rattle.requests.specs.Laws.Rules.{named}
+use Rattle.waits.specs.Laws.Rules.{named}
 use Rattle.sound.specs.Examined.{Examined}
 use Rattle.ending.specs.Ending.{Tracked, Concluded}
-use Rattle.protocol.specs.Replies.{Response, ok, answered, wait, counted, refused, Outcome, outcome, Served, served}
+use Rattle.protocol.specs.Replies.{Reply, ok, answered, wait, counted, refused, Outcome, outcome, Served, served}
 use Rattle.protocol.specs.Replies as replies
 use Rattle.protocol.specs.Ending.{Settlement, ended, commit, committedFirst, settledAll}
 use Rattle.protocol.specs.Calls as calls
 use Rattle.protocol.specs.Terms.{OperateAccepted}
 use Rattle.protocol.specs.Laws.Ending.{entries-fit}
+use Rattle.protocol.specs.Laws.Leaving.{counted-part}
 use Rattle.protocol.specs.Laws.Reasons.{unless-refused, unless-accepted, request-reduced}
 
 module _ (n reason : ℕ) (found : reason ≡ n) (w list : List ℕ) (s : Served) where
@@ -94,13 +95,13 @@ module _ (w : List ℕ) (t o : ℕ) (requested : Operation) (owner : ℕ) where
   waits blocked named other =
       ap (calls.respond base w t o requested) (sym (names-somebody owner blocked named other .0))
 
-  answers : (blocked : Option ℕ) → Names owner blocked → owner ≡ 64 → (answer : Reply)
-      → answer ≡ calls.answerTo base requested (decode base w) o
+  answers : (blocked : Option ℕ) → Names owner blocked → owner ≡ 64 → (answer : Answer)
+      → answer ≡ calls.answerTo requested (decode base w) o
       → (after : List ℕ) → after ≡ encode base (appended (logged t o requested answer) (decode base w))
       → served after (outcome (answered answer) [] []) ≡ calls.respond base w t o requested blocked
   answers blocked named free answer given after written =
-      ap₂ (λ (x : List ℕ) (a : Reply). served x (outcome (answered a) [] []))
-      (written ∙ ap (λ (a : Reply). encode base (appended (logged t o requested a) (decode base w))) given) given
+      ap₂ (λ (x : List ℕ) (a : Answer). served x (outcome (answered a) [] []))
+      (written ∙ ap (λ (a : Answer). encode base (appended (logged t o requested a) (decode base w))) given) given
       ∙ ap (calls.respond base w t o requested) (sym (names-nobody owner blocked named free))
 
 module _ (w : List ℕ) (t o number k v reason : ℕ)
@@ -121,8 +122,8 @@ module _ (w : List ℕ) (t o number k v reason : ℕ)
   unfolding calls.operate
   operate-waits e owner named other = waits w t o requested owner blocked named other ∙ accepted _ reason found w [] _ e
 
-  pub operate-answers : reason ≡ 0 → (owner : ℕ) → Names owner blocked → owner ≡ 64 → (answer : Reply)
-      → answer ≡ calls.answerTo base requested (decode base w) o
+  pub operate-answers : reason ≡ 0 → (owner : ℕ) → Names owner blocked → owner ≡ 64 → (answer : Answer)
+      → answer ≡ calls.answerTo requested (decode base w) o
       → (after : List ℕ) → after ≡ encode base (appended (logged t o requested answer) (decode base w))
       → served after (outcome (answered answer) [] []) ≡ calls.operate base whetherSound w t o number k v
   unfolding calls.operate
@@ -149,6 +150,13 @@ module _ (w : List ℕ) (o reason : ℕ) (found : reason ≡ calls.contentsReaso
       served w (outcome (counted (length rows)) [] (joined rowWords rows)) ≡ calls.contents base whetherSound w o
   unfolding calls.contents
   contents-served e = accepted _ reason found w [] _ e
+
+-- What contents hands back is that part of the book.
+pub contents-handed : (w : List ℕ) (o : ℕ) (part : List ℕ) → part ≡ calls.contents base whetherSound w o .outcome .rows
+    → (part ≡ calls.contents base whetherSound w o .outcome .rows)
+    × ((n : ℕ) → calls.contents base whetherSound w o .outcome .reply ≡ counted n
+    → part ≡ take (2 * n) (drop (objectStart o + 2) w))
+contents-handed w o part e = (e, λ n said. e ∙ counted-part w o n said)
 
 -- ---- Finish and cancel
 
@@ -180,7 +188,7 @@ module _ (w : List ℕ) (t : ℕ) (list : List ℕ) (reason : ℕ)
 
   module _ (e : reason ≡ 0) (book : List ℕ) where
     -- The book holds what is left once transactions have ended, and list and count name those that committed.
-    concludes : (said : ℕ → Response) (r : Settlement) (after : List ℕ) (count : ℕ) → Concluded r list book after count
+    concludes : (said : ℕ → Reply) (r : Settlement) (after : List ℕ) (count : ℕ) → Concluded r list book after count
         → served book (outcome (said count) after []) ≡ calls.concluded base said list r
     concludes said r after count c =
         ap₂ (λ (x : List ℕ × List ℕ) (n : ℕ). served (x .0) (outcome (said n) (x .1) [])) (λ i. (c .0 i, c .1 i)) (c .2)

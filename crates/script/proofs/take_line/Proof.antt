@@ -10,20 +10,26 @@ use Rattle.script.proofs.take_line.Tie as tie
 rest : tie.Need-returns
 rest c =
     let a = c .before .before .before .before .before .before .before .before .before .before .before in
+    let find = c .before .before .before .before .before .before .find in
     let keep = c .before .before .before .keep in
-    took-rest (a .args .book .now) (a .args .line .now) (a .args .block .now) (a .args .out .now) (a .args .from) (a .pre .1) (a .pre .0) (a .pre .2)
-    (a .pre .3) _ (c .before .before .before .before .before .before .find .ensures .0) _ _ (keep .ensures) (c .if1 .taken)
+    took-rest (a .args .book .now) (a .args .line .now) (a .args .block .now) (a .args .out .now) (a .args .from)
+    (a .pre .1) (a .pre .0) (a .pre .2) (a .pre .3) _ (find .ensures .0) _ _ (keep .ensures)
+    (c .if1 .taken)
 
 kept-there : tie.Need-slice-aggregate-answer
 kept-there c =
-    let keep = c .before .before .before .before .before .keep in sym (length-take-le (keep .result) (keep .last .0) (omega (arith, keep .ensures .0, keep .ensures .2)))
+    let keep = c .before .before .before .before .before .keep in
+    sym (length-take-le (keep .result) (keep .last .0) (omega (arith, keep .ensures .0, keep .ensures .2)))
 
 line : tie.Need-returns-2
 line c =
-    let a = c .before .before .before .before .before .before .before .before .before .before .before .before .before .before .before .before .before .before .before in
-    let find = c .before .before .before .before .before .before .before .before .before .before .before .before .before .before .find in
-    took-line (a .args .book .now) (a .args .line .now) (a .args .block .now) (a .args .out .now) (a .args .from) (a .pre .1) (a .pre .0) (a .pre .2)
-    (a .pre .3) _ (find .ensures .0) _ _ (c .before .before .before .before .before .before .before .before .before .before .before .keep .ensures) (omega (arith, find .ensures .1, c .before .before .before .before .before .before .before .before .if1 .left)) (c .before .before .before .before .answer .ensures)
+    let tested = c .before .before .before .before .before .before .before .before in
+    let kept = tested .before .before .before in
+    let found = kept .before .before .before in
+    let a = found .before .before .before .before .before in
+    took-line (a .args .book .now) (a .args .line .now) (a .args .block .now) (a .args .out .now) (a .args .from)
+    (a .pre .1) (a .pre .0) (a .pre .2) (a .pre .3) _ (found .find .ensures .0) _ _ (kept .keep .ensures)
+    (omega (arith, found .find .ensures .1, tested .if1 .left)) (c .before .before .before .before .answer .ensures)
 
 pub take-line-spec : {M : Type 1} → statement M
 take-line-spec =

@@ -14,20 +14,24 @@ use Rattle.protocol.specs.Call.{Call}
 use Rattle.text.specs.Text.{split}
 use Rattle.text.specs.Laws.Lines.{Without, begun, begun-empty, begun-longer, some-piece}
 use Rattle.lines.specs.Theorems.{front-enough}
-use Rattle.script.specs.Script.{withoutEmptyLast, LineServed, serving, lineServed, replies, asLines, zeros, script}
-use Rattle.script.specs.Sessions.{Session, session, opening, Turn, turn, printing, lineEnded, taken, closing, soFar}
+use Rattle.script.specs.Script.{withoutEmptyLast, LineServed, serving, lineServed, replies, asLines, zeros}
+use Rattle.script.specs.Script.{script}
+use Rattle.script.specs.Sessions.{Session, session, opening, Turn, turn, printing, lineEnded, taken, closing}
+use Rattle.script.specs.Sessions.{soFar}
 
-pub printing-after : (xs ys : List ℕ) (t : Turn) → printing xs (printing ys t) ≡ printing (xs ++ ys) t
+printing-after : (xs ys : List ℕ) (t : Turn) → printing xs (printing ys t) ≡ printing (xs ++ ys) t
 printing-after xs ys t = ap (turn (t .after)) (sym (append-assoc xs ys (t .output)))
 
 -- Bytes after bytes.
-pub taken-append : (s : Session) (xs ys : List ℕ) → taken s (xs ++ ys) ≡ printing (taken s xs .output) (taken (taken s xs .after) ys)
+pub taken-append : (s : Session) (xs ys : List ℕ)
+    → taken s (xs ++ ys) ≡ printing (taken s xs .output) (taken (taken s xs .after) ys)
 taken-append s [] ys = refl
 taken-append s (b ∷ xs) ys =
     cases (eqb b (code "\n"))
     (λ (e : eqb b (code "\n") ≡ true). rw e
     (ap (printing (lineEnded s .output)) (taken-append (lineEnded s .after) xs ys)
-    ∙ printing-after (lineEnded s .output) (taken (lineEnded s .after) xs .output) (taken (taken (lineEnded s .after) xs .after) ys)))
+    ∙ printing-after (lineEnded s .output) (taken (lineEnded s .after) xs .output)
+    (taken (taken (lineEnded s .after) xs .after) ys)))
     (λ (e : eqb b (code "\n") ≡ false). rw e (taken-append (session (s .book) (take 178 (s .line ++ (b ∷ [])))) xs ys))
 
 take-front : (n : ℕ) (xs ys : List ℕ) → take n (take n xs ++ ys) ≡ take n (xs ++ ys)
@@ -38,25 +42,29 @@ take-front (suc n) (x ∷ xs) ys = ap (λ (l : List ℕ). x ∷ l) (take-front n
 -- Bytes without a line feed only lengthen the line.
 pub taken-part : (w line part : List ℕ) → length line ≤ 178 → Without (code "\n") part
     → taken (session w line) part ≡ turn (session w (take 178 (line ++ part))) []
-taken-part w line [] few free = ap (λ (l : List ℕ). turn (session w l) []) (sym (ap (take 178) (append-nil line) ∙ take-all 178 line few))
+taken-part w line [] few free =
+    ap (λ (l : List ℕ). turn (session w l) []) (sym (ap (take 178) (append-nil line) ∙ take-all 178 line few))
 taken-part w line (b ∷ part) few free =
     rw (free .0)
     (taken-part w (take 178 (line ++ (b ∷ []))) part (rw length-take (omega arith)) (free .1)
-    ∙ ap (λ (l : List ℕ). turn (session w l) []) (take-front 178 (line ++ (b ∷ [])) part ∙ ap (take 178) (append-assoc line (b ∷ []) part)))
+    ∙ ap (λ (l : List ℕ). turn (session w l) [])
+    (take-front 178 (line ++ (b ∷ [])) part ∙ ap (take 178) (append-assoc line (b ∷ []) part)))
 
 -- ---- The lines of a script
 
 -- What stands behind 178 bytes of a line changes no answer.
-pub front-served : (w line : List ℕ) → lineServed w (take 178 line) ≡ lineServed w line
+front-served : (w line : List ℕ) → lineServed w (take 178 line) ≡ lineServed w line
 unfolding lineServed
 front-served w line = ap (λ (call : Option Call). serving call w) (front-enough line)
 
-pub line-kept : (line : List ℕ) (pieces : List (List ℕ)) → 1 ≤ length pieces → withoutEmptyLast (line ∷ pieces) ≡ line ∷ withoutEmptyLast pieces
+pub line-kept : (line : List ℕ) (pieces : List (List ℕ)) → 1 ≤ length pieces
+    → withoutEmptyLast (line ∷ pieces) ≡ line ∷ withoutEmptyLast pieces
 line-kept line [] more = absurd (omega arith)
 line-kept [] (piece ∷ pieces) more = refl
 line-kept (b ∷ line) (piece ∷ pieces) more = refl
 
-pub last-left : (line : List ℕ) (pieces : List (List ℕ)) → 1 ≤ length pieces → dropLast (line ∷ pieces) ≡ line ∷ dropLast pieces
+pub last-left : (line : List ℕ) (pieces : List (List ℕ)) → 1 ≤ length pieces
+    → dropLast (line ∷ pieces) ≡ line ∷ dropLast pieces
 last-left line [] more = absurd (omega arith)
 last-left line (piece ∷ pieces) more = refl
 
@@ -66,26 +74,31 @@ through last s bytes = taken s bytes .output ++ last (taken s bytes .after)
 
 -- All lines but the last are answered, and the last where `answered` keeps it: then `last` prints the reply.
 module _ (last : Session → List ℕ) (answered : List (List ℕ) → List (List ℕ))
-    (keeps : (line : List ℕ) (pieces : List (List ℕ)) → 1 ≤ length pieces → answered (line ∷ pieces) ≡ line ∷ answered pieces)
+    (keeps : (line : List ℕ) (pieces : List (List ℕ)) → 1 ≤ length pieces
+    → answered (line ∷ pieces) ≡ line ∷ answered pieces)
     (ends : (w line : List ℕ) → last (session w (take 178 line)) ≡ asLines (replies w (answered (line ∷ [])))) where
   abbrev repliesTo : List ℕ → List (List ℕ) → List ℕ
   repliesTo w pieces = asLines (replies w (answered pieces))
 
   feed-ended : (bytes w line : List ℕ)
-      → through last (session (lineServed w line .book) []) bytes ≡ repliesTo (lineServed w line .book) (begun [] (split (code "\n") bytes))
+      → through last (session (lineServed w line .book) []) bytes
+      ≡ repliesTo (lineServed w line .book) (begun [] (split (code "\n") bytes))
       → let s : Session = session w (take 178 line) in
-      lineEnded s .output ++ through last (lineEnded s .after) bytes ≡ repliesTo w (begun line ([] ∷ split (code "\n") bytes))
+      lineEnded s .output ++ through last (lineEnded s .after) bytes
+      ≡ repliesTo w (begun line ([] ∷ split (code "\n") bytes))
   feed-ended bytes w line others =
       let pieces : List (List ℕ) = split (code "\n") bytes in
       let ended : LineServed → List ℕ → List ℕ = λ a after. a .text ++ (code "\n" ∷ after) in
       append-assoc (lineServed w (take 178 line) .text) (code "\n" ∷ []) _
       ∙ ap (λ (a : LineServed). ended a (through last (session (a .book) []) bytes)) (front-served w line)
       ∙ ap (ended (lineServed w line)) (others ∙ ap (repliesTo (lineServed w line .book)) (begun-empty pieces))
-      ∙ ap (λ (lines : List (List ℕ)). asLines (replies w lines)) (sym (keeps line pieces (some-piece (code "\n") bytes)))
+      ∙ ap (λ (lines : List (List ℕ)). asLines (replies w lines))
+      (sym (keeps line pieces (some-piece (code "\n") bytes)))
       ∙ ap (λ (l : List ℕ). repliesTo w (l ∷ pieces)) (sym (append-nil line))
 
   -- The line was begun before, and the pieces of these bytes are the rest of it and the lines after it.
-  through-lines : (bytes w line : List ℕ) → through last (session w (take 178 line)) bytes ≡ repliesTo w (begun line (split (code "\n") bytes))
+  through-lines : (bytes w line : List ℕ)
+      → through last (session w (take 178 line)) bytes ≡ repliesTo w (begun line (split (code "\n") bytes))
   through-lines [] w line = ends w line ∙ ap (λ (l : List ℕ). repliesTo w (l ∷ [])) (sym (append-nil line))
   through-lines (b ∷ bytes) w line =
       let s : Session = session w (take 178 line) in
@@ -102,7 +115,8 @@ module _ (last : Session → List ℕ) (answered : List (List ℕ) → List (Lis
   pub all-lines : (input : List ℕ) → through last opening input ≡ repliesTo zeros (split (code "\n") input)
   all-lines input = through-lines input zeros [] ∙ ap (repliesTo zeros) (begun-empty (split (code "\n") input))
 
-last-ended : (w line : List ℕ) → closing (session w (take 178 line)) .output ≡ asLines (replies w (withoutEmptyLast (line ∷ [])))
+last-ended : (w line : List ℕ)
+    → closing (session w (take 178 line)) .output ≡ asLines (replies w (withoutEmptyLast (line ∷ [])))
 last-ended w [] = refl
 last-ended w (b ∷ line) =
     let s : Session = session w (take 178 (b ∷ line)) in
@@ -120,4 +134,5 @@ pub blocks-taken : (s : Session) (blocks : List (List ℕ)) → soFar s blocks �
 unfolding flatten
 blocks-taken s [] = refl
 blocks-taken s (block ∷ blocks) =
-    ap (printing (taken s block .output)) (blocks-taken (taken s block .after) blocks) ∙ sym (taken-append s block (flatten blocks))
+    ap (printing (taken s block .output)) (blocks-taken (taken s block .after) blocks)
+    ∙ sym (taken-append s block (flatten blocks))

@@ -13,12 +13,16 @@ use Rattle.script.specs.Laws.Reading.{taken-append}
 use Rattle.script.specs.declared.Progress.{Progress}
 
 -- What was put into a buffer stands at its front.
-pub front-put : {out text after : List ℕ} {end : ℕ} → Put out 0 text after end → end ≤ length out → take end after ≡ text
+pub front-put : {out text after : List ℕ} {end : ℕ} → Put out 0 text after end → end ≤ length out
+    → take end after ≡ text
 front-put {out} {text} put fits = ap₂ take (put .behind) (put .buffer) ∙ front out 0 text (omega (arith, put .behind))
 
 -- A call of `feed`, with more to come.
-took-front : {s : Session} {block book line out after : List ℕ} {kept : ℕ} {p : Progress} → Took s block (begun kept) book line out after p
-    → (more : List ℕ) → taken s (block ++ more) ≡ printing (take (p .written) after) (taken (session book (take (p .kept) line)) (drop (p .at) block ++ more))
+took-front : {s : Session} {block book line out after : List ℕ} {kept : ℕ} {p : Progress}
+    → Took s block (begun kept) book line out after p
+    → (more : List ℕ)
+    → taken s (block ++ more)
+    ≡ printing (take (p .written) after) (taken (session book (take (p .kept) line)) (drop (p .at) block ++ more))
 took-front {s} {block} {book} {line} {out} {after} {kept} {p} took more =
     let rest : List ℕ = drop (p .at) block ++ more in
     let bytes : block ++ more ≡ chunk block 0 (p .at) ++ rest =
@@ -27,7 +31,8 @@ took-front {s} {block} {book} {line} {out} {after} {kept} {p} took more =
     ∙ ap (λ (n : ℕ). take n block ++ rest) (sym (sub-zero (p .at))) in
     ap (taken s) bytes
     ∙ taken-append s (chunk block 0 (p .at)) rest
-    ∙ ap₂ (λ (text : List ℕ) (x : Session). printing text (taken x rest)) (sym (front-put (took .put) (took .fits))) (took .left)
+    ∙ ap₂ (λ (text : List ℕ) (x : Session). printing text (taken x rest)) (sym (front-put (took .put) (took .fits)))
+    (took .left)
 
 pub fed-taken : {s left : Session} {block printed : List ℕ} {blocks : List (List ℕ)} → Fed s block blocks printed left
     → taken s (block ++ flatten blocks) ≡ turn left printed

@@ -3,7 +3,7 @@ use Prim.Native.Nat.{ℕ, suc, _+_, _-_, _≤_, _<_}
 use Prim.Native.Char.{code}
 use mathlib.Core.Path.{_≡_, refl, sym, ap, ap₂, _∙_, subst, subst⁻¹}
 use mathlib.Core.Bool.{Bool, true, false, false≢true}
-use mathlib.Core.Logic.{_↔_, _⊎_, inl, inr, ⊎-elim}
+use mathlib.Core.Logic.{_↔_, inl, inr, ⊎-elim}
 use mathlib.Core.List.{List, [], _∷_, _++_, append-nil}
 use native.Mathlib.Nat.{eq-zero-or-pos}
 use native.Mathlib.Omega.{arith}
@@ -24,24 +24,29 @@ use Rattle.script.specs.declared.Progress.{Progress}
 
 -- ---- Keeping a line
 
-module _ (line : List ℕ) (kept : ℕ) (part : List ℕ) (size : length line ≡ 178) (few : kept ≤ 178) {after : List ℕ} {end : ℕ} where
+module _ (line : List ℕ) (kept : ℕ) (part : List ℕ) (size : length line ≡ 178)
+    (few : kept ≤ 178) {after : List ℕ} {end : ℕ} where
   pub kept-all : length part < 178 - kept → Put line kept part after end → Kept (take kept line) part after end
   kept-all less put =
       let fits : kept + length part ≤ length line = omega arith in
-      let head : length (take kept line ++ part) ≤ 178 = omega (arith, length-append (take kept line) part, length-take-le kept line (omega arith)) in (
+      let head : length (take kept line ++ part) ≤ 178 =
+      omega (arith, length-append (take kept line) part, length-take-le kept line (omega arith)) in (
         omega (arith, put .behind),
-        ap₂ take (put .behind) (put .buffer) ∙ front line kept part fits ∙ sym (take-all 178 (take kept line ++ part) head),
+        ap₂ take (put .behind) (put .buffer) ∙ front line kept part fits
+            ∙ sym (take-all 178 (take kept line ++ part) head),
         ap length (put .buffer) ∙ length-put line kept part fits ∙ size,
       )
 
-  pub kept-some : 178 - kept ≤ length part → Put line kept (take (178 - kept) part) after end → Kept (take kept line) part after end
+  pub kept-some : 178 - kept ≤ length part → Put line kept (take (178 - kept) part) after end
+      → Kept (take kept line) part after end
   kept-some more put =
       let some : length (take (178 - kept) part) ≡ 178 - kept = length-take-le (178 - kept) part more in
       let fits : kept + length (take (178 - kept) part) ≤ length line = omega arith in
       let head : length (take kept line) ≡ kept = length-take-le kept line (omega arith) in
       let whole : length (take kept line) + (178 - kept) ≡ 178 = omega arith in (
         omega (arith, put .behind),
-        ap₂ take (put .behind) (put .buffer) ∙ front line kept (take (178 - kept) part) fits ∙ sym (take-append-add (take kept line) part (178 - kept))
+        ap₂ take (put .behind) (put .buffer) ∙ front line kept (take (178 - kept) part) fits
+            ∙ sym (take-append-add (take kept line) part (178 - kept))
             ∙ ap (λ (n : ℕ). take n (take kept line ++ part)) whole,
         ap length (put .buffer) ∙ length-put line kept (take (178 - kept) part) fits ∙ size,
       )
@@ -63,7 +68,7 @@ module _ (w line block : List ℕ) (at : ℕ) (few : length line ≤ 178) (withi
   abbrev longer : List ℕ
   longer = take 178 (line ++ chunk block at end)
 
-  pub taken-chunk : taken (session w line) (chunk block at end) ≡ turn (session w longer) []
+  taken-chunk : taken (session w line) (chunk block at end) ≡ turn (session w longer) []
   taken-chunk =
       taken-part w line (chunk block at end) few
       (subst⁻¹ (λ (n : ℕ). Without (code "\n") (take n rest)) place (front-without (code "\n") rest))
@@ -74,12 +79,13 @@ module _ (w line block : List ℕ) (at : ℕ) (few : length line ≤ 178) (withi
       subst (Separated (code "\n")) (drop-cons rest (end - at) 0 there)
       (subst⁻¹ (λ (n : ℕ). Separated (code "\n") (drop n rest)) place (separated (code "\n") rest))
 
-  pub taken-line : end < length block → taken (session w line) (chunk block at (end + 1)) ≡ lineEnded (session w longer)
+  taken-line : end < length block → taken (session w line) (chunk block at (end + 1)) ≡ lineEnded (session w longer)
   taken-line more =
       let there : end - at < length rest = omega (arith, length-drop at block, found) in
       let next : end + 1 - at ≡ suc (end - at) = omega (arith, found) in
       let bytes : chunk block at (end + 1) ≡ chunk block at end ++ (code "\n" ∷ []) =
-      ap (λ (n : ℕ). take n rest) next ∙ take-suc rest (end - at) 0 there ∙ ap (λ (b : ℕ). chunk block at end ++ (b ∷ [])) (ends more) in
+      ap (λ (n : ℕ). take n rest) next ∙ take-suc rest (end - at) 0 there
+      ∙ ap (λ (b : ℕ). chunk block at end ++ (b ∷ [])) (ends more) in
       ap (taken (session w line)) bytes
       ∙ taken-append (session w line) (chunk block at end) (code "\n" ∷ [])
       ∙ ap (λ (t : Turn). printing (t .output) (taken (t .after) (code "\n" ∷ []))) taken-chunk
@@ -88,15 +94,20 @@ module _ (w line block : List ℕ) (at : ℕ) (few : length line ≤ 178) (withi
 -- ---- Going on
 
 module _ (at bytes written room : ℕ) where
-  pub room-told : at < bytes → written ≤ room → (leb 266 (room - written) ≡ true) ↔ ((at < bytes) × (written + 266 ≤ room))
-  room-told more fits = (λ e. (more, omega (arith, leb-true 266 (room - written) e)), λ p. le-leb 266 (room - written) (omega (arith, p .1)))
+  pub room-told : at < bytes → written ≤ room
+      → (leb 266 (room - written) ≡ true) ↔ ((at < bytes) × (written + 266 ≤ room))
+  room-told more fits = (
+    λ e. (more, omega (arith, leb-true 266 (room - written) e)),
+    λ p. le-leb 266 (room - written) (omega (arith, p .1)),
+  )
 
   pub end-told : bytes ≤ at → (ltb at bytes ≡ true) ↔ ((at < bytes) × (written + 266 ≤ room))
   end-told end = (λ e. absurd (omega (arith, ltb-true at bytes e)), λ p. lt-ltb at bytes (p .0))
 
 -- ---- What `take_line` leaves
 
-module _ (w line block out : List ℕ) (from : Progress) (few : from .kept ≤ 178) (size : length line ≡ 178) (more : from .at < length block) (room : from .written + 266 ≤ length out) (end : ℕ)
+module _ (w line block out : List ℕ) (from : Progress) (few : from .kept ≤ 178) (size : length line ≡ 178)
+    (more : from .at < length block) (room : from .written + 266 ≤ length out) (end : ℕ)
     (found : end ≡ from .at + indexOf (code "\n") (slice (from .at) (length block) block)) where
   abbrev held-back : List ℕ
   held-back = take (from .kept) line
@@ -109,27 +120,34 @@ module _ (w line block out : List ℕ) (from : Progress) (few : from .kept ≤ 1
 
   module _ (line₁ : List ℕ) (kept : ℕ) (held : Kept held-back (chunk block (from .at) end) line₁ kept) where
     pub took-rest : end ≡ length block
-        → Took s block from w line₁ out out (record { at = end; kept = kept; written = from .written }) × (from .at < end)
+        → Took s block from w line₁ out out (record { at = end; kept = kept; written = from .written })
+        × (from .at < end)
     took-rest whole =
         let to-end : taken s (chunk block (from .at) end) ≡ turn (session w (take kept line₁)) [] =
-        taken-chunk w held-back block (from .at) short (omega arith) end found ∙ ap (λ (l : List ℕ). turn (session w l) []) (sym (held .1)) in (
+        taken-chunk w held-back block (from .at) short (omega arith) end found
+        ∙ ap (λ (l : List ℕ). turn (session w l) []) (sym (held .1)) in (
           record {
             forward = omega arith;
             within = omega arith;
             few = held .0;
             left = ap (λ (t : Turn). t .after) to-end;
-            put = subst⁻¹ (λ (t : Turn). Put out (from .written) (t .output) out (from .written)) to-end (nothing out (from .written));
+            put =
+                subst⁻¹ (λ (t : Turn). Put out (from .written) (t .output) out (from .written)) to-end
+                (nothing out (from .written));
             fits = omega arith;
           },
           omega arith,
         )
 
     pub took-line : end < length block → {book after : List ℕ} {written : ℕ}
-        → Turned (lineEnded (session w (take kept line₁))) book out (from .written) after written × (written ≤ from .written + 266)
-        → Took s block from book line₁ out after (record { at = end + 1; kept = 0; written = written }) × (from .at < end + 1)
+        → Turned (lineEnded (session w (take kept line₁))) book out (from .written) after written
+        × (written ≤ from .written + 266)
+        → Took s block from book line₁ out after (record { at = end + 1; kept = 0; written = written })
+        × (from .at < end + 1)
     took-line inside {book} {after} {written} said =
         let to-line : taken s (chunk block (from .at) (end + 1)) ≡ lineEnded (session w (take kept line₁)) =
-        taken-line w held-back block (from .at) short (omega arith) end found inside ∙ ap (λ (l : List ℕ). lineEnded (session w l)) (sym (held .1)) in (
+        taken-line w held-back block (from .at) short (omega arith) end found inside
+        ∙ ap (λ (l : List ℕ). lineEnded (session w l)) (sym (held .1)) in (
           record {
             forward = omega (arith, found);
             within = omega arith;
@@ -146,7 +164,14 @@ module _ (w line block out : List ℕ) (from : Progress) (few : from .kept ≤ 1
 pub took-nothing : (book line block out : List ℕ) (kept : ℕ) → kept ≤ 178
     → Took (session book (take kept line)) block (begun kept) book line out out (begun kept)
 took-nothing book line block out kept few =
-    record { forward = omega arith; within = omega arith; few = few; left = refl; put = nothing out 0; fits = omega arith }
+    record {
+      forward = omega arith;
+      within = omega arith;
+      few = few;
+      left = refl;
+      put = nothing out 0;
+      fits = omega arith;
+    }
 
 module _ {s : Session} {block : List ℕ} {from : Progress} {book line out after : List ℕ} {to : Progress}
     (first : Took s block from book line out after to) {book₁ line₁ after₁ : List ℕ} {on : Progress}
@@ -162,14 +187,16 @@ module _ {s : Session} {block : List ℕ} {from : Progress} {book line out after
 
   pub took-more : Took s block from book₁ line₁ out after₁ on
   took-more =
-      let whole : on .at - from .at ≡ (to .at - from .at) + (on .at - to .at) = omega (arith, first .forward, second .forward) in
+      let whole : on .at - from .at ≡ (to .at - from .at) + (on .at - to .at) =
+      omega (arith, first .forward, second .forward) in
       let bytes : chunk block (from .at) (on .at) ≡ chunk block (from .at) (to .at) ++ chunk block (to .at) (on .at) =
       let start : from .at + (to .at - from .at) ≡ to .at = omega (arith, first .forward) in
       ap (λ (n : ℕ). take n (drop (from .at) block)) whole
       ∙ take-add (to .at - from .at) (on .at - to .at) (drop (from .at) block)
       ∙ ap (λ (l : List ℕ). chunk block (from .at) (to .at) ++ take (on .at - to .at) l)
       (drop-drop (to .at - from .at) (from .at) block ∙ ap (λ (n : ℕ). drop n block) start) in
-      let both : taken s (chunk block (from .at) (on .at)) ≡ printing printed (taken (session book (take (to .kept) line)) (chunk block (to .at) (on .at))) =
+      let both : taken s (chunk block (from .at) (on .at))
+      ≡ printing printed (taken (session book (take (to .kept) line)) (chunk block (to .at) (on .at))) =
       ap (taken s) bytes ∙ taken-append s (chunk block (from .at) (to .at)) (chunk block (to .at) (on .at))
       ∙ ap (λ (x : Session). printing printed (taken x (chunk block (to .at) (on .at)))) (first .left) in
       record {
@@ -183,22 +210,26 @@ module _ {s : Session} {block : List ℕ} {from : Progress} {book line out after
         fits = omega (arith, second .fits, took-length);
       }
 
-pub stopped : (block out : List ℕ) (p : Progress) {goes : Bool} → (goes ≡ true) ↔ ((p .at < length block) × (p .written + 266 ≤ length out)) → goes ≡ false
+pub stopped : (block out : List ℕ) (p : Progress) {goes : Bool}
+    → (goes ≡ true) ↔ ((p .at < length block) × (p .written + 266 ≤ length out)) → goes ≡ false
     → p .at ≤ length block → Stopped block out p
 stopped block out p told ended within =
     cases (ltb (p .at) (length block))
     (λ e. cases (leb (p .written + 266) (length out))
-    (λ f. absurd (false≢true (sym ended ∙ told .1 (ltb-true (p .at) (length block) e, leb-true (p .written + 266) (length out) f))))
+    (λ f. absurd (false≢true (sym ended
+    ∙ told .1 (ltb-true (p .at) (length block) e, leb-true (p .written + 266) (length out) f))))
     (λ f. inr (leb-false (p .written + 266) (length out) f)))
     (λ e. inl (omega (arith, ltb-false (p .at) (length block) e)))
 
 -- Where there are bytes to take, and room for a reply, some are taken.
-pub took-some : {s : Session} {block book line out after : List ℕ} {kept : ℕ} {p : Progress} → Took s block (begun kept) book line out after p
+pub took-some : {s : Session} {block book line out after : List ℕ} {kept : ℕ} {p : Progress}
+    → Took s block (begun kept) book line out after p
     → Stopped block after p → length after ≡ length out → 0 < length block → 266 ≤ length out → 0 < p .at
 took-some so (inl all) same some room = omega arith
 took-some {s} {block} {p = p} so (inr full) same some room =
     ⊎-elim
     (λ (none : p .at ≡ 0). absurd (
-    let nothing-printed : length (taken s (chunk block 0 (p .at)) .output) ≡ 0 = ap (λ (n : ℕ). length (taken s (chunk block 0 n) .output)) none in
+    let nothing-printed : length (taken s (chunk block 0 (p .at)) .output) ≡ 0 =
+    ap (λ (n : ℕ). length (taken s (chunk block 0 n) .output)) none in
     omega (arith, nothing-printed, so .put .behind)))
     (λ (l : 0 < p .at). l) (eq-zero-or-pos (p .at))

@@ -24,4 +24,5 @@ replies-traced (line ∷ lines) (call ∷ calls) e w =
     let first : callIn line ≡ some call = cc in
     let others : map callIn lines ≡ map some calls = cc in
     ap (λ (c : Option Call). let a : LineServed = serving c w in a .text ∷ replies (a .book) lines) first
-    ∙ ap (λ (l : List (List ℕ)). serving (some call) w .text ∷ l) (replies-traced lines calls others (desk call w .book))
+    ∙ ap (λ (l : List (List ℕ)). serving (some call) w .text ∷ l)
+    (replies-traced lines calls others (desk call w .book))

@@ -55,7 +55,8 @@ acyclic c =
     (acyclic-said (store past) (edges past) (statuses past .statuses .result .finished)
     (past .before .conflicts .ensures .2) (statuses past .statuses .ensures .1))
 
-dependent : (c : tie.After-dependent) → (c .dependent .result ≡ true) ↔ Dependent (store (c .before .before .before .before .before))
+dependent : (c : tie.After-dependent) → (c .dependent .result ≡ true)
+    ↔ Dependent (store (c .before .before .before .before .before))
 dependent c =
     let past = c .before .before .before .before .before in
     Iff·trans (c .dependent .ensures)

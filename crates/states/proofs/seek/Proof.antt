@@ -1,11 +1,11 @@
 -- `states::seek`: the key, if it is there, is among the rows that are left.
-use Prim.Native.Nat.{_+_, _-_, _/_, _≤_, _<_}
+use Prim.Native.Nat.{_+_, _/_, _≤_, _<_}
 use mathlib.Core.Path.{_≡_, sym, ap, _∙_}
 use mathlib.Core.Logic.{⊎-elim}
 use native.Mathlib.Omega.{arith}
 use borrow.Author.Tests.{eqb-true, eqb-false}
 use lib.ListN.{length}
-use Rattle.operations.specs.Operations.{replied}
+use Rattle.operations.specs.Operations.{answering}
 use Rattle.states.specs.Laws.Seeking.{Seeking, seek-start, seek-above, seek-below, seek-found, seek-absent}
 use Rattle.states.proofs.seek.Statement.{statement}
 use Rattle.states.proofs.seek.Tie as tie
@@ -84,7 +84,7 @@ returns c =
     let at-loop = c .before .before .before .before .before in
     let s = start at-loop in
     let read = c .before .before .row-key2 in
-    ap (replied 1) (c .row-value .ensures)
+    ap (answering 1) (c .row-value .ensures)
     ∙ seek-found (s .args .book .now) (s .args .object) (s .args .key) (s .pre .ascending) (at-loop .loop .inv)
     (c .before .before .before .if2 .taken)
     (sym (read .ensures) ∙ eqb-true _ _ (c .before .if3 .taken))

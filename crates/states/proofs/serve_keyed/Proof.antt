@@ -4,7 +4,7 @@ use mathlib.Core.Path.{_≡_}
 use native.Mathlib.Omega.{arith}
 use borrow.Author.Needs.{needs}
 use lib.ListN.{length, getD}
-use Rattle.operations.specs.Stored.{asReply}
+use Rattle.operations.specs.Stored.{answerOf}
 use Rattle.states.specs.Laws.Serving.{tests}
 use Rattle.states.specs.Laws.Keyed as keyed
 use Rattle.states.proofs.serve_keyed.Statement.{statement}
@@ -46,8 +46,8 @@ mul-count c = omega (arith, keyed.placed (start c .pre))
 element-copy-out-count : tie.Need-element-copy-out-count
 element-copy-out-count c = keyed.placed (start c .pre) .0
 
-keyed-reply-requires : tie.Need-keyed-reply-requires
-keyed-reply-requires c κs = bounds (c .before) .0
+keyed-answer-requires : tie.Need-keyed-answer-requires
+keyed-answer-requires c κs = bounds (c .before) .0
 
 entry-answer-requires : tie.Need-entry-answer-requires
 entry-answer-requires c κs = readable (start (c .before .before))
@@ -56,12 +56,12 @@ returns : tie.Need-returns
 returns c =
     let held = c .before .before .before .before .before in
     let read = held .before .before .before .entry-operation in
-    let given = c .before .before .before .keyed-reply in
+    let given = c .before .before .before .keyed-answer in
     let answer = c .before .before .entry-answer in
-    let test = c .before .same-reply in
+    let test = c .before .same-answer in
     keyed.refused (start held .pre) (read .result) (read .ensures) (held .held .result) (held .held .ensures)
-    (asReply (given .result)) (given .ensures) (test .result)
-    (tests (start held .pre .entry) (asReply (given .result)) (answer .result) (test .result) (answer .ensures)
+    (answerOf (given .result)) (given .ensures) (test .result)
+    (tests (start held .pre .entry) (answerOf (given .result)) (answer .result) (test .result) (answer .ensures)
     (test .ensures)) (c .if1 .taken)
 
 count-after-requires : tie.Need-count-after-requires
@@ -98,13 +98,13 @@ returns-2 : tie.Need-returns-2
 returns-2 c =
     let held = at-end c in
     let read = held .before .before .before .entry-operation in
-    let given = c .before .before .before .before .before .keyed-reply in
+    let given = c .before .before .before .before .before .keyed-answer in
     let answer = c .before .before .before .before .entry-answer in
-    let test = c .before .before .before .same-reply in
+    let test = c .before .before .before .same-answer in
     let next = c .before .changed in
     keyed.served (start held .pre) (read .result) (read .ensures) (held .held .result) (held .held .ensures)
-    (asReply (given .result)) (given .ensures) (test .result)
-    (tests (start held .pre .entry) (asReply (given .result)) (answer .result) (test .result) (answer .ensures)
+    (answerOf (given .result)) (given .ensures) (test .result)
+    (tests (start held .pre .entry) (answerOf (given .result)) (answer .result) (test .result) (answer .ensures)
     (test .ensures)) (c .before .before .if1 .left)
     (next .result) (next .ensures) (c .count-after .result) (c .count-after .ensures)
 
@@ -116,7 +116,7 @@ serve-keyed-spec =
     held-requires
     mul-count
     element-copy-out-count
-    keyed-reply-requires
+    keyed-answer-requires
     entry-answer-requires
     (λ c κs. search needs)
     returns

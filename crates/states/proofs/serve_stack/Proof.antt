@@ -6,8 +6,8 @@ use native.Mathlib.Omega.{arith}
 use borrow.Author.Needs.{needs}
 use borrow.Author.Tests.{ltb-false}
 use lib.ListN.{length}
-use Rattle.operations.specs.Operations.{replied}
-use Rattle.operations.specs.Stored.{asReply}
+use Rattle.operations.specs.Operations.{answering}
+use Rattle.operations.specs.Stored.{answerOf}
 use Rattle.states.specs.Laws.Serving.{tests}
 use Rattle.states.specs.Laws.Stacked as stacked
 use Rattle.states.proofs.serve_stack.Statement.{statement}
@@ -76,14 +76,14 @@ returns : tie.Need-returns
 returns c =
     let read = c .before .before .before .before .before .before .entry-operation in
     let answer = c .before .before .before .before .before .entry-answer in
-    let test = c .same-reply in
+    let test = c .same-answer in
     let k = start (c .before) .pre in
-    stacked.pushed k (read .result .number) (read .ensures .0) (replied 1 0) (test .result)
-    (tests (k .entry) (replied 1 0) (answer .result) (test .result) (answer .ensures) (test .ensures))
+    stacked.pushed k (read .result .number) (read .ensures .0) (answering 1 0) (test .result)
+    (tests (k .entry) (answering 1 0) (answer .result) (test .result) (answer .ensures) (test .ensures))
     (c .before .if1 .taken) refl
 
-top-reply-requires : tie.Need-top-reply-requires
-top-reply-requires c κs =
+top-answer-requires : tie.Need-top-answer-requires
+top-answer-requires c κs =
     let k = asked c .pre in let b = stacked.bounds k in (k .entry .formed .packed .words, stacked.placed k, b .1, b .2)
 
 mul-counts-2 : tie.Need-mul-counts-2
@@ -109,33 +109,33 @@ element-write-tops-2 c = stacked.placed (at-pop (c .before .before) .pre)
 
 returns-2 : tie.Need-returns-2
 returns-2 c =
-    let given = c .before .before .before .top-reply in
+    let given = c .before .before .before .top-answer in
     let other = c .before .before .before .before in
     let k = asked other .pre in
     let read = other .before .before .before .before .before .entry-operation in
-    let answer = other .before .before .before .before .entry-answer in
-    let test = c .same-reply2 in
+    let entered = other .before .before .before .before .entry-answer in
+    let test = c .same-answer2 in
     let number = read .result .number in
-    let reply = asReply (given .result) in
-    let tested = tests (k .entry) reply (answer .result) (test .result) (answer .ensures) (test .ensures) in
+    let answer = answerOf (given .result) in
+    let tested = tests (k .entry) answer (entered .result) (test .result) (entered .ensures) (test .ensures) in
     ⊎-elim
     (λ w.
     rw (w .4, w .5)
-    (stacked.popped-entry k number (read .ensures .0) reply (test .result) tested (given .ensures) (w .0 .taken)
+    (stacked.popped-entry k number (read .ensures .0) answer (test .result) tested (given .ensures) (w .0 .taken)
     (w .2 .taken)))
     (⊎-elim
     (λ w.
     rw (w .3, w .4)
-    (stacked.popped-row k number (read .ensures .0) reply (test .result) tested (given .ensures) (w .0 .taken)
+    (stacked.popped-row k number (read .ensures .0) answer (test .result) tested (given .ensures) (w .0 .taken)
     (omega (arith, w .2 .left))))
     (λ w.
     rw (w .1, w .2)
     (⊎-elim
     (λ v.
-    stacked.popped-none k number (read .ensures .0) reply (test .result) tested (given .ensures) (v .0 .taken)
+    stacked.popped-none k number (read .ensures .0) answer (test .result) tested (given .ensures) (v .0 .taken)
     (ltb-false 0 _ (v .1 .left)))
     (λ v.
-    stacked.looked-at k number (read .ensures .0) reply (test .result) tested (given .ensures) (other .if1 .left)
+    stacked.looked-at k number (read .ensures .0) answer (test .result) tested (given .ensures) (other .if1 .left)
     (v .left)) (w .0 .came))))
     (c .before .if2 .came)
 
@@ -160,7 +160,7 @@ serve-stack-spec =
     element-write-counts
     (λ c κs. search needs)
     returns
-    top-reply-requires
+    top-answer-requires
     (λ c. search needs)
     mul-counts-2
     element-write-counts-2

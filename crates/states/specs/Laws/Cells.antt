@@ -1,4 +1,4 @@
--- An operation on a key: the value at its key and at others after it, the number of rows, and its reply.
+-- An operation on a key: the value at its key and at others after it, the number of rows, and its answer.
 use Prim.Native.Nat.{ℕ, _+_, _-_, _≤_, _<_}
 use mathlib.Core.Path.{_≡_, refl, sym, ap, _∙_}
 use mathlib.Core.Bool.{cond, not}
@@ -7,21 +7,21 @@ use mathlib.Core.List.{List, [], _∷_}
 use native.Mathlib.Omega.{arith}
 use lib.Dec.{eqb}
 use lib.ListN.{length, length-append}
-use Rattle.operations.specs.Operations.{Stack, Row, replied, flag, valued, setInsert, setDelete, member, tableInsert}
+use Rattle.operations.specs.Operations.{Stack, Row, answering, flag, valued, setInsert, setDelete, member, tableInsert}
 use Rattle.operations.specs.Operations.{tableDelete, lookup, size, modify, Operation, onStack, onSet, onTable, kindOf}
-use Rattle.operations.specs.Operations.{keyOf, valueOf, numberOf, next, reply, found, isSome}
+use Rattle.operations.specs.Operations.{keyOf, valueOf, numberOf, next, answer, found, isSome}
 use Rattle.operations.specs.Laws.Rows.{order, byOrder-less, byOrder-equal, byOrder-greater, rowsAt, alter, kept}
 use Rattle.operations.specs.Laws.Rows.{dropped, replaced, inserted-alters, deleted-alters, modified-alters, alter-at}
 use Rattle.operations.specs.Laws.Rows.{alter-apart, alter-ascending}
-use Rattle.states.specs.States.{changed, countAfter, keyedReply, Ordered}
+use Rattle.states.specs.States.{stateAfter, countAfter, keyedAnswer, Ordered}
 
--- ---- Replies of lookup
+-- ---- Answers of lookup
 
-inserts : (v : ℕ) (x : Option ℕ) → cond (eqb (valued x .code) 0) (replied 1 v) (valued x) ≡ valued (kept v x)
+inserts : (v : ℕ) (x : Option ℕ) → cond (eqb (valued x .code) 0) (answering 1 v) (valued x) ≡ valued (kept v x)
 inserts v none = refl
 inserts v (some w) = refl
 
-modifies : (v : ℕ) (x : Option ℕ) → cond (eqb (valued x .code) 0) (valued x) (replied 1 v) ≡ valued (replaced v x)
+modifies : (v : ℕ) (x : Option ℕ) → cond (eqb (valued x .code) 0) (valued x) (answering 1 v) ≡ valued (replaced v x)
 modifies v none = refl
 modifies v (some w) = refl
 
@@ -33,11 +33,11 @@ replaced-code : (v : ℕ) (x : Option ℕ) → valued (replaced v x) .code ≡ v
 replaced-code v none = refl
 replaced-code v (some w) = refl
 
-is-there : (x : Option ℕ) → replied (valued x .code) 0 ≡ flag (isSome x)
+is-there : (x : Option ℕ) → answering (valued x .code) 0 ≡ flag (isSome x)
 is-there none = refl
 is-there (some v) = refl
 
-is-absent : (x : Option ℕ) → replied (1 - valued x .code) 0 ≡ flag (not (isSome x))
+is-absent : (x : Option ℕ) → answering (1 - valued x .code) 0 ≡ flag (not (isSome x))
 is-absent none = refl
 is-absent (some v) = refl
 
@@ -88,20 +88,20 @@ module _ (rs : List Row) where
   count-right (onTable (modify k v)) n =
       rw (modified-alters k v rs) (omega (arith, alter-counts k (replaced v) rs, replaced-code v (found k rs)))
 
-  -- ---- The reply
+  -- ---- The answer
 
-  pub reply-right : (o : Operation) → (kindOf o ≡ Stack → ⊥)
-      → keyedReply (numberOf o) (valued (found (keyOf o) rs)) (length rs) ≡ reply o rs
-  unfolding keyedReply
-  reply-right (onStack o) n = absurd (n refl)
-  reply-right (onSet (setInsert k)) n = refl
-  reply-right (onSet (setDelete k)) n = is-there (found k rs)
-  reply-right (onSet (member k)) n = is-there (found k rs)
-  reply-right (onTable (tableInsert k v)) n = is-absent (found k rs)
-  reply-right (onTable (tableDelete k)) n = is-there (found k rs)
-  reply-right (onTable (lookup k)) n = refl
-  reply-right (onTable size) n = refl
-  reply-right (onTable (modify k v)) n = is-there (found k rs)
+  pub answer-right : (o : Operation) → (kindOf o ≡ Stack → ⊥)
+      → keyedAnswer (numberOf o) (valued (found (keyOf o) rs)) (length rs) ≡ answer o rs
+  unfolding keyedAnswer
+  answer-right (onStack o) n = absurd (n refl)
+  answer-right (onSet (setInsert k)) n = refl
+  answer-right (onSet (setDelete k)) n = is-there (found k rs)
+  answer-right (onSet (member k)) n = is-there (found k rs)
+  answer-right (onTable (tableInsert k v)) n = is-absent (found k rs)
+  answer-right (onTable (tableDelete k)) n = is-there (found k rs)
+  answer-right (onTable (lookup k)) n = refl
+  answer-right (onTable size) n = refl
+  answer-right (onTable (modify k v)) n = is-there (found k rs)
 
   -- ---- The value at a key
 
@@ -117,8 +117,8 @@ module _ (rs : List Row) where
   ordered-next (onTable (modify k v)) a = rw modified-alters (alter-ascending k (replaced v) rs a)
 
   pub changed-right : (o : Operation) → (kindOf o ≡ Stack → ⊥) → Ordered (kindOf o) rs
-      → changed (numberOf o) (valueOf o) (valued (found (keyOf o) rs)) ≡ valued (found (keyOf o) (next o rs))
-  unfolding changed
+      → stateAfter (numberOf o) (valueOf o) (valued (found (keyOf o) rs)) ≡ valued (found (keyOf o) (next o rs))
+  unfolding stateAfter
   changed-right (onStack o) n a = absurd (n refl)
   changed-right (onSet (setInsert k)) n a =
       rw inserted-alters (inserts 0 (found k rs) ∙ ap valued (sym (alter-at k (kept 0) rs a)))

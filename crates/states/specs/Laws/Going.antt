@@ -8,31 +8,27 @@ use native.Mathlib.Omega.{arith}
 use borrow.Author.Tests.{not-true, not-false}
 use lib.ListN.{length, getD, set, length-set}
 use lib.Seq.{getD-set-same, getD-set-other}
-use Rattle.operations.specs.Operations.{Kind, Stack, Set, Table, kindOf, numberOf}
-use Rattle.operations.specs.PairRules.{firstNumber, lastNumber}
+use Rattle.operations.specs.Operations.{numberOf}
+use Rattle.operations.specs.PairRules.{lastNumber, kindNumbered}
 use Rattle.operations.specs.declared.Operation.{Operation}
 use Rattle.operations.specs.Laws.Cases.{same, yes, no}
-use Rattle.operations.specs.Laws.Storing.{numbers}
+use Rattle.operations.specs.Laws.Numbers.{numbered-stack, numbers, kind-numbered}
 use Rattle.store.specs.Layout.{word, decode, operationAt, objectStart, base}
 use Rattle.store.specs.Soundness.{EntriesAnswered, Room}
-use Rattle.representatives.specs.Representatives.{numberAt}
+use Rattle.representatives.specs.Representatives.{entryNumber}
 use Rattle.answers.specs.Answers.{rowsNeeded}
-use Rattle.answers.specs.Laws.Entries.{EntryRead, needed-few, entries-end}
+use Rattle.answers.specs.Laws.Entries.{EntryOperation, needed-few}
+use Rattle.store.specs.Laws.Entries.{entries-end}
 use Rattle.answers.specs.Laws.Counting.{Counting, count-start, count-past, count-own, count-end}
-use Rattle.answers.specs.Laws.Whole.{all-room, all-answered, each-served}
+use Rattle.answers.specs.Laws.Whole.{all-room, all-answered, each-answered}
 use Rattle.states.specs.States.{Sized, Serving, Formed, EntryOn, KeyedEntry, StackEntry, ToServe, AfterEntry}
 use Rattle.states.specs.States.{RowCounts}
 use Rattle.states.specs.Laws.Serving as serving
 
 -- ---- By the number
 
-stack-kind : (kind : Kind) → firstNumber kind < 4 → kind ≡ Stack
-stack-kind Stack l = refl
-stack-kind Set l = absurd (omega arith)
-stack-kind Table l = absurd (omega arith)
-
 module _ {w : List ℕ} {i o p : ℕ} {cells counts tops below : List ℕ} (k : ToServe w i o p cells counts tops below)
-    (number : ℕ) (numbered : number ≡ numberAt w i) where
+    (number : ℕ) (numbered : number ≡ entryNumber w i) where
   number-stored : number ≡ numberOf (operationAt w i)
   number-stored = numbered ∙ sym (k .entry .formed .packed .log .asStored i (k .entry .inside) .0)
 
@@ -40,7 +36,8 @@ module _ {w : List ℕ} {i o p : ℕ} {cells counts tops below : List ℕ} (k : 
   stack-entry l =
       record {
         entry = k .entry;
-        of-stack = stack-kind (kindOf (operationAt w i)) (omega (arith, number-stored, numbers (operationAt w i) .0));
+        of-stack = sym (kind-numbered (operationAt w i)) ∙ ap kindNumbered (sym number-stored)
+            ∙ numbered-stack number (omega arith);
         cells = cells;
         state = k .state;
       }
@@ -85,8 +82,8 @@ pub record Taken (w : List ℕ) (i o : ℕ) (used : List ℕ) (operation : Opera
   pub takes : taken ≡ getD used o 0 + needed
 
 -- What is decided.
-abbrev pub Decided : List ℕ → Bool → Type 0
-Decided w r = (r ≡ true) ↔ (Room base (decode base w) × EntriesAnswered base (decode base w))
+abbrev Decided : List ℕ → Bool → Type 0
+Decided w r = (r ≡ true) ↔ (Room base (decode base w) × EntriesAnswered (decode base w))
 
 module _ {w : List ℕ} (formed : Formed w) where
   pub no-entries : word w 0 ≡ 0 → Decided w true
@@ -97,7 +94,7 @@ module _ {w : List ℕ} (formed : Formed w) where
             let count = word w (objectStart o + 1) in
             let all = count-end w o 0 (omega arith) count (count-start w (formed .packed) o l count refl) in
             omega (arith, all, formed .packed .objects o l .rows)),
-        all-answered w (formed .fits) (λ o l. rw (entries-end w o 0 (omega arith)) tt),
+        all-answered w (formed .fits) (λ o l. rw (entries-end w 0 o (omega arith)) tt),
       )
 
   pub go-start : (cells counts used tops below : List ℕ) → Sized cells counts tops below → RowCounts w 16 counts
@@ -120,7 +117,7 @@ module _ {w : List ℕ} (formed : Formed w) where
         )
 
     module _ {o : ℕ} {operation : Operation} {needed taken : ℕ} (t : Taken w i o used operation needed taken) where
-      read : EntryRead w i operation
+      read : EntryOperation w i operation
       read = record { packed = formed .packed; inside = t .entry .inside; words = t .words }
 
       pub go-bounds : (getD used o 0 ≤ 64) × (needed ≤ 1)
@@ -137,7 +134,7 @@ module _ {w : List ℕ} (formed : Formed w) where
       module _ {cells′ counts′ tops′ below′ : List ℕ} {r : Bool}
           (d : AfterEntry w i cells′ counts′ tops′ below′ r) where
         pub go-wrong : not r ≡ true → Decided w false
-        go-wrong f = no refl (λ a. d .1 (not-true r f) (each-served w (formed .fits) (a .1)))
+        go-wrong f = no refl (λ a. d .1 (not-true r f) (each-answered w (formed .fits) (a .1)))
 
         pub go-on : not r ≡ false → taken ≤ 64 → Going w (i + 1) cells′ counts′ (set used o taken) tops′ below′
         go-on f l =

@@ -4,7 +4,7 @@ use mathlib.Core.Path.{_≡_, refl, sym, ap, _∙_}
 use mathlib.Core.Option.{none, some}
 use mathlib.Core.List.{List}
 use native.Mathlib.Omega.{arith}
-use Rattle.operations.specs.Operations.{Row, replied, valued, found, Ascending}
+use Rattle.operations.specs.Operations.{Row, answering, valued, found, Ascending}
 use Rattle.operations.specs.Laws.Rows.{order, byOrder-less, byOrder-equal, byOrder-greater}
 use Rattle.store.specs.Layout.{word, tabulate, objectStart, rowAt, rowsAt}
 use Rattle.store.specs.Laws.Lists.{all-each}
@@ -76,13 +76,13 @@ module _ (w : List ℕ) (o key : ℕ) where
         }
 
     pub seek-found : left ≡ 1 → rowAt w o low .key ≡ key
-        → replied 1 (rowAt w o low .value) ≡ valued (found key (rowsAt w o))
+        → answering 1 (rowAt w o low .value) ≡ valued (found key (rowsAt w o))
     seek-found one e =
         ap valued (sym (found-at (word w (objectStart o + 1)) (rowAt w o) ascending low (omega (arith, s .within))))
         ∙ ap (λ (k : ℕ). valued (found k (rowsAt w o))) e
 
     pub seek-absent : left ≤ 1 → (left ≡ 1 → rowAt w o low .key ≡ key → ⊥)
-        → replied 0 0 ≡ valued (found key (rowsAt w o))
+        → answering 0 0 ≡ valued (found key (rowsAt w o))
     seek-absent l n =
         ap valued
         (sym

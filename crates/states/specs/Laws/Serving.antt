@@ -10,21 +10,23 @@ use borrow.Author.Tests.{eq-eqb, ne-eqb}
 use lib.Dec.{eqb}
 use lib.ListN.{length, getD, set}
 use lib.Seq.{getD-set-same, getD-set-other}
-use Rattle.operations.specs.Operations.{Kind, Stack, Set, Table, Row, Operation, Reply, replied, kindOf, keyOf, next}
-use Rattle.operations.specs.Operations.{reply, WellFormed, reduceKey}
+use Rattle.operations.specs.Operations.{Kind, Stack, Set, Table, Row, Operation, Answer, answering, kindOf, keyOf, next}
+use Rattle.operations.specs.Operations.{answer, WellFormed, reduceKey}
+use Rattle.operations.specs.Log.{Answered}
 use Rattle.operations.specs.declared.Operation as code
-use Rattle.operations.specs.declared.Reply as coded
-use Rattle.operations.specs.Stored.{asReply}
+use Rattle.operations.specs.declared.Answer as coded
+use Rattle.operations.specs.Stored.{answerOf}
 use Rattle.operations.specs.Laws.Cases.{same}
-use Rattle.store.specs.Layout.{word, entryStart, operationAt, entryAt, rowsAt, base, adds}
+use Rattle.operations.specs.Operations.{adds}
+use Rattle.store.specs.Layout.{word, entryStart, operationAt, entryAt, rowsAt, base}
 use Rattle.store.specs.Laws.Reading.{kind-below}
 use Rattle.store.specs.Laws.Capacity.{grows}
-use Rattle.representatives.specs.Representatives.{numberAt, keyAt}
+use Rattle.representatives.specs.Representatives.{entryNumber, entryKey}
 use Rattle.representatives.specs.Laws.Reading.{of-kind}
-use Rattle.answers.specs.Answers.{Served, entriesFrom}
-use Rattle.answers.specs.Laws.Entries.{entries-own, entries-other, entries-end, at-most-one}
+use Rattle.store.specs.Laws.Entries.{entriesFrom, entries-own, entries-other, entries-end}
+use Rattle.answers.specs.Laws.Entries.{at-most-one}
 use Rattle.answers.specs.Laws.Whole.{row-count, rows-read}
-use Rattle.states.specs.States.{kindAt, Ordered, AllServed, Sized, Serving, Formed, EntryOn, RowCounts}
+use Rattle.states.specs.States.{kindAt, Ordered, AllAnswered, Sized, Serving, Formed, EntryOn, RowCounts}
 use Rattle.states.specs.Laws.Cells.{ordered-next}
 use Rattle.states.specs.Laws.Stacks.{stacked-start}
 
@@ -56,25 +58,26 @@ module _ {w : List ℕ} (formed : Formed w) where
       }
 
 pub served-all : {w : List ℕ} {i : ℕ} {cells counts tops below : List ℕ} → Serving w i cells counts tops below
-    → word w 0 ≤ i → AllServed w 0 (rowsAt w)
-served-all {w} {i} s l = s .left .0 (λ o m. rw (entries-end w o i l) tt)
+    → word w 0 ≤ i → AllAnswered w 0 (rowsAt w)
+served-all {w} {i} s l = s .left .0 (λ o m. rw (entries-end w i o l) tt)
 
 -- ---- At an entry
 
 -- What was read of an entry's operation, and of its answer.
 abbrev pub OperationRead : List ℕ → ℕ → code.Operation → Type 0
 OperationRead w i operation =
-    (operation .number ≡ numberAt w i) × (operation .key ≡ keyAt w i) × (operation .value ≡ word w (entryStart i + 4))
+    (operation .number ≡ entryNumber w i) × (operation .key ≡ entryKey w i)
+    × (operation .value ≡ word w (entryStart i + 4))
 
-abbrev pub AnswerRead : List ℕ → ℕ → coded.Reply → Type 0
+abbrev AnswerRead : List ℕ → ℕ → coded.Answer → Type 0
 AnswerRead w i answer = (answer .code ≡ word w (entryStart i + 5)) × (answer .value ≡ word w (entryStart i + 6))
 
--- A test says whether a reply is the entry's answer.
-abbrev pub Tests : List ℕ → ℕ → Reply → Bool → Type 0
+-- A test says whether an answer is the entry's answer.
+abbrev pub Tests : List ℕ → ℕ → Answer → Bool → Type 0
 Tests w i given test = (test ≡ true) ↔ (given ≡ entryAt w i .entry .answer)
 
 -- The rows after an operation on object o.
-pub moved : (ℕ → List Row) → ℕ → Operation → ℕ → List Row
+moved : (ℕ → List Row) → ℕ → Operation → ℕ → List Row
 moved rows o op q = cond (eqb q o) (next op (rows q)) (rows q)
 
 module _ {w : List ℕ} {i o : ℕ} (e : EntryOn w i o) where
@@ -87,13 +90,13 @@ module _ {w : List ℕ} {i o : ℕ} (e : EntryOn w i o) where
   pub kind-of : (kind : Kind) → kindAt w o ≡ some kind → kindOf (operationAt w i) ≡ kind
   kind-of kind k = Option·some-injective (kindOf (operationAt w i)) kind (sym kind-here ∙ k)
 
-  pub key-stored : keyOf (operationAt w i) ≡ keyAt w i
+  pub key-stored : keyOf (operationAt w i) ≡ entryKey w i
   key-stored = e .formed .packed .log .asStored i (e .inside) .1
 
-  pub tests : (given : Reply) (answer : coded.Reply) (test : Bool) → AnswerRead w i answer
-      → (test ≡ true) ↔ (given ≡ asReply answer) → Tests w i given test
+  pub tests : (given : Answer) (answer : coded.Answer) (test : Bool) → AnswerRead w i answer
+      → (test ≡ true) ↔ (given ≡ answerOf answer) → Tests w i given test
   tests given answer test read tested =
-      let same : asReply answer ≡ entryAt w i .entry .answer = ap₂ replied (read .0) (read .1) in
+      let same : answerOf answer ≡ entryAt w i .entry .answer = ap₂ answering (read .0) (read .1) in
       (λ e. tested .0 e ∙ same, λ e. tested .1 (e ∙ sym same))
 
   module _ {cells counts tops below : List ℕ} (s : Serving w i cells counts tops below) where
@@ -101,12 +104,12 @@ module _ {w : List ℕ} {i o : ℕ} (e : EntryOn w i o) where
     ordered-here = s .ordered o (kindOf (operationAt w i)) kind-here
 
     entries-here : entriesFrom w o i ≡ entryAt w i .entry ∷ entriesFrom w o (i + 1)
-    entries-here = entries-own w o i (e .inside) (sym (e .on))
+    entries-here = entries-own w i o (e .inside) (sym (e .on))
 
     abbrev pub Right : Type 0
-    Right = reply (operationAt w i) (s .rows o) ≡ entryAt w i .entry .answer
+    Right = answer (operationAt w i) (s .rows o) ≡ entryAt w i .entry .answer
 
-    pub wrong : (Right → ⊥) → AllServed w 0 (rowsAt w) → ⊥
+    pub wrong : (Right → ⊥) → AllAnswered w 0 (rowsAt w) → ⊥
     wrong n h = n ((rw entries-here at (s .left .1 h o placed)) .0)
 
     -- ---- The rows after it, and the count
@@ -147,11 +150,12 @@ module _ {w : List ℕ} {i o : ℕ} (e : EntryOn w i o) where
         same q o (λ (d : q ≡ o). rw (d, rows-own) (getD-set-same counts o n 0 small ∙ c))
         (λ (d : q ≡ o → ⊥). rw (rows-other q d) (getD-set-other counts o q n 0 d ∙ s .counted q m))
 
-    pub left-after : Right → AllServed w (i + 1) rows-after ↔ AllServed w 0 (rowsAt w)
+    pub left-after : Right → AllAnswered w (i + 1) rows-after ↔ AllAnswered w 0 (rowsAt w)
     left-after right = Iff·trans (λ h q m. step q .0 (h q m), λ h q m. step q .1 (h q m)) (s .left)
       where
-        step : (q : ℕ) → Served (entriesFrom w q (i + 1)) (rows-after q) ↔ Served (entriesFrom w q i) (s .rows q)
+        step : (q : ℕ) → Answered next answer (entriesFrom w q (i + 1)) (rows-after q)
+            ↔ Answered next answer (entriesFrom w q i) (s .rows q)
         step q =
             same q o (λ (d : q ≡ o). rw (d, entries-here, rows-own) (λ h. (right, h), λ h. h .1))
             (λ (d : q ≡ o → ⊥).
-            rw (entries-other w q i (e .inside) (λ x. d (sym x ∙ sym (e .on))), rows-other q d) Iff·rfl)
+            rw (entries-other w i q (e .inside) (λ x. d (sym x ∙ sym (e .on))), rows-other q d) Iff·rfl)

@@ -7,13 +7,13 @@ use mathlib.Core.List.{List, [], _∷_}
 use native.Mathlib.Omega.{arith}
 use lib.ListN.{length, getD, set, length-set, length-append, length-take}
 use lib.Seq.{getD-set-same, getD-set-other, set-getD}
-use Rattle.operations.specs.Operations.{Stack, Row, row, Operation, onStack, push, pop, top, Reply, replied, valued}
-use Rattle.operations.specs.Operations.{found, topItem, stackNext, next, reply, kindOf, stored}
+use Rattle.operations.specs.Operations.{Stack, Row, row, Operation, onStack, push, pop, top, Answer, answering, valued}
+use Rattle.operations.specs.Operations.{found, topItem, stackNext, next, answer, kindOf, stored}
 use Rattle.operations.specs.PairRules.{firstNumber, lastNumber}
 use Rattle.operations.specs.Laws.Cases.{same, denied}
-use Rattle.operations.specs.Laws.Storing.{numbers}
+use Rattle.operations.specs.Laws.Numbers.{numbers}
 use Rattle.store.specs.Layout.{word, orPop, entryStart, operationAt, rowsAt}
-use Rattle.representatives.specs.Representatives.{objectAt, numberAt, keyAt, First}
+use Rattle.representatives.specs.Representatives.{entryObject, entryNumber, entryKey, First}
 use Rattle.representatives.specs.Laws.Reading.{of-kind}
 use Rattle.answers.specs.Laws.Whole.{row-count}
 use Rattle.states.specs.States.{kindAt, Keyed, Stacked, cellIn, Serving, Judged, StackEntry, StackServed, TopBy}
@@ -59,16 +59,16 @@ module _ {w : List ℕ} {i o : ℕ} {counts tops below : List ℕ} (k : StackEnt
     rows-kept q z = serving.rows-other (k .entry) s q (λ d. z (ap (kindAt w) d ∙ is-stack))
 
     cells-right : (j : ℕ) → j < i + 1 → First w j → Keyed w j
-        → cellIn cells j ≡ valued (found (keyAt w j) (rows-after (objectAt w j)))
+        → cellIn cells j ≡ valued (found (entryKey w j) (rows-after (entryObject w j)))
     cells-right j m f kj =
         same j i (λ (d : j ≡ i). absurd (kj (ap (λ (x : ℕ). kindOf (operationAt w x)) d ∙ k .of-stack)))
         (λ (d : j ≡ i → ⊥).
         let h : j < i = omega arith in
         let kind = of-kind w (k .entry .formed .fits) j (omega (arith, h, k .entry .inside)) in
-        let keyed : kindAt w (objectAt w j) ≡ some Stack → ⊥ =
+        let keyed : kindAt w (entryObject w j) ≡ some Stack → ⊥ =
         λ z. kj (Option·some-injective (kindOf (operationAt w j)) Stack (sym kind ∙ z)) in
         s .cell j h f kj
-        ∙ ap (λ (rs : List Row). valued (found (keyAt w j) rs)) (sym (rows-kept (objectAt w j) keyed)))
+        ∙ ap (λ (rs : List Row). valued (found (entryKey w j) rs)) (sym (rows-kept (entryObject w j) keyed)))
 
     stacks-right : (q : ℕ) → q < 16 → kindAt w q ≡ some Stack
         → Stacked w (i + 1) (rowsAt w q) (rows-after q) (getD (set tops o t) q 0) (set below i b)
@@ -99,21 +99,22 @@ module _ {w : List ℕ} {i o : ℕ} {counts tops below : List ℕ} (k : StackEnt
 
   -- ---- What the code leaves
 
-  module _ (number : ℕ) (numbered : number ≡ numberAt w i) (given : Reply) (test : Bool)
+  module _ (number : ℕ) (numbered : number ≡ entryNumber w i) (given : Answer) (test : Bool)
       (tested : serving.Tests w i given test) where
     -- The operation that a number names.
-    named : (n : ℕ) → number ≡ n → operationAt w i ≡ orPop (stored (λ x. x) n (keyAt w i) (word w (entryStart i + 4)))
-    named n e = ap (λ (m : ℕ). orPop (stored (λ x. x) m (keyAt w i) (word w (entryStart i + 4)))) (sym numbered ∙ e)
+    named : (n : ℕ) → number ≡ n
+        → operationAt w i ≡ orPop (stored (λ x. x) n (entryKey w i) (word w (entryStart i + 4)))
+    named n e = ap (λ (m : ℕ). orPop (stored (λ x. x) m (entryKey w i) (word w (entryStart i + 4)))) (sym numbered ∙ e)
 
-    -- The test, where the reply is that of an operation that is known, and the arrays are those after it.
+    -- The test, where the answer is that of an operation that is known, and the arrays are those after it.
     judged : (op : Operation) → operationAt w i ≡ op → {cells : List ℕ} (s : Serving w i cells counts tops below)
-        → given ≡ reply op (s .rows o) → (n t b : ℕ) → n ≡ length (next op (s .rows o))
+        → given ≡ answer op (s .rows o) → (n t b : ℕ) → n ≡ length (next op (s .rows o))
         → Stacked w (i + 1) (rowsAt w o) (next op (s .rows o)) t (set below i b)
         → {counts′ tops′ below′ : List ℕ} → set counts o n ≡ counts′ → set tops o t ≡ tops′ → set below i b ≡ below′
         → Judged w (Serving w (i + 1) cells counts′ tops′ below′) test
     judged op is s from n t b counted stacked ec et eb =
-        let gives : given ≡ reply (operationAt w i) (s .rows o) =
-        from ∙ ap (λ (p : Operation). reply p (s .rows o)) (sym is) in
+        let gives : given ≡ answer (operationAt w i) (s .rows o) =
+        from ∙ ap (λ (p : Operation). answer p (s .rows o)) (sym is) in
         let counts-it : n ≡ length (next (operationAt w i) (s .rows o)) =
         counted ∙ ap (λ (p : Operation). length (next p (s .rows o))) (sym is) in (
           λ e.
@@ -124,12 +125,12 @@ module _ {w : List ℕ} {i o : ℕ} {counts tops below : List ℕ} (k : StackEnt
           λ e. serving.wrong (k .entry) s (λ right. denied tested e (gives ∙ right)),
         )
 
-    pub pushed : number ≡ 1 → given ≡ replied 1 0
+    pub pushed : number ≡ 1 → given ≡ answering 1 0
         → StackServed w i counts tops below (set counts o (getD counts o 0 + 1)) (set tops o (i + 1))
         (set below i (getD tops o 0)) test
     pushed one gives cells s =
-        judged (onStack (push (keyAt w i))) (named 1 one) s gives (getD counts o 0 + 1) (i + 1) (getD tops o 0)
-        (omega (arith, s .counted o placed, length-append (s .rows o) (row (keyAt w i) 0 ∷ [])))
+        judged (onStack (push (entryKey w i))) (named 1 one) s gives (getD counts o 0 + 1) (i + 1) (getD tops o 0)
+        (omega (arith, s .counted o placed, length-append (s .rows o) (row (entryKey w i) 0 ∷ [])))
         (stacked-push (stack-here s) (omega (arith, bounds .3, s .sized .of-below))) refl refl refl
 
     module _ (gives : TopBy w o (getD counts o 0) (getD tops o 0) given) where

@@ -6,17 +6,17 @@ use mathlib.Core.List.{List, [], _∷_}
 use native.Mathlib.Omega.{arith}
 use lib.ListN.{length, getD, take, set, length-append}
 use lib.Seq.{getD-take, getD-set-same, getD-set-other, set-getD, take-length, take-take, length-take-le}
-use Rattle.operations.specs.Operations.{Row, row, replied, valued, push, pop, stackNext, topItem}
+use Rattle.operations.specs.Operations.{Row, row, answering, valued, push, pop, stackNext, topItem}
 use Rattle.operations.specs.Laws.Stacks.{top-of-pushed, popped-of-pushed}
 use Rattle.store.specs.Layout.{word, objectStart, rowAt, rowsAt}
 use Rattle.store.specs.Laws.Lists.{getD-tabulate}
-use Rattle.representatives.specs.Representatives.{keyAt}
+use Rattle.representatives.specs.Representatives.{entryKey}
 use Rattle.answers.specs.Laws.Whole.{row-count}
-use Rattle.states.specs.States.{pushedOn, Linked, Stacked, TopBy}
+use Rattle.states.specs.States.{pushedOn, LinkedDown, Stacked, TopBy}
 
 -- Entries below i are linked as before, whatever is written at i.
-linked-kept : (below : List ℕ) (i b top : ℕ) (es : List ℕ) → Linked below i top es
-    → Linked (set below i b) (i + 1) top es
+linked-kept : (below : List ℕ) (i b top : ℕ) (es : List ℕ) → LinkedDown below i top es
+    → LinkedDown (set below i b) (i + 1) top es
 linked-kept below i b top [] l = l
 linked-kept below i b top (e ∷ es) (h, m, l) =
     (h, omega arith, rw (getD-set-other below i e b 0 (omega arith)) (linked-kept below i b (getD below e 0) es l))
@@ -33,14 +33,14 @@ module _ {w : List ℕ} {i : ℕ} {first rows : List Row} {top : ℕ} {below : L
 
   -- The item on top is a row of the book, or it was pushed.
   by-top : {A : Type 0} → (top ≡ 0 → rows ≡ bottom → A)
-      → ((e : ℕ) (es : List ℕ) → Linked below i top (e ∷ es) → rows ≡ pushedOn w bottom (e ∷ es) → A) → A
+      → ((e : ℕ) (es : List ℕ) → LinkedDown below i top (e ∷ es) → rows ≡ pushedOn w bottom (e ∷ es) → A) → A
   by-top {A} none-on some-on = by (s .pushes) (s .linked) (s .stacked)
     where
-      by : (es : List ℕ) → Linked below i top es → rows ≡ pushedOn w bottom es → A
+      by : (es : List ℕ) → LinkedDown below i top es → rows ≡ pushedOn w bottom es → A
       by [] l h = none-on l h
       by (e ∷ es) l h = some-on e es l h
 
-  pub of-first : top ≡ 0 → rows ≡ bottom
+  of-first : top ≡ 0 → rows ≡ bottom
   of-first z = by-top (λ t h. h) (λ e es l h. absurd (omega (arith, l .0)))
 
   pub top-within : top ≤ i
@@ -52,12 +52,12 @@ module _ {w : List ℕ} {i : ℕ} {first rows : List Row} {top : ℕ} {below : L
   pub not-empty : (top ≡ 0 → ⊥) → 0 < length rows
   not-empty n =
       by-top (λ t h. absurd (n t))
-      (λ e es l h. omega (arith, ap length h, length-append (pushedOn w bottom es) (row (keyAt w e) 0 ∷ [])))
+      (λ e es l h. omega (arith, ap length h, length-append (pushedOn w bottom es) (row (entryKey w e) 0 ∷ [])))
 
   -- ---- After an operation; b is what is written at i
 
   pub stacked-push : i < length below
-      → Stacked w (i + 1) first (stackNext (push (keyAt w i)) rows) (i + 1) (set below i top)
+      → Stacked w (i + 1) first (stackNext (push (entryKey w i)) rows) (i + 1) (set below i top)
   stacked-push l =
       record {
         low = s .low;
@@ -66,7 +66,7 @@ module _ {w : List ℕ} {i : ℕ} {first rows : List Row} {top : ℕ} {below : L
         linked =
             let kept = linked-kept below i top top (s .pushes) (s .linked) in
             (refl, omega arith, rw (getD-set-same below i top 0 l) kept);
-        stacked = ap (stackNext (push (keyAt w i))) (s .stacked);
+        stacked = ap (stackNext (push (entryKey w i))) (s .stacked);
       }
 
   module _ (b : ℕ) where
@@ -91,7 +91,7 @@ module _ {w : List ℕ} {i : ℕ} {first rows : List Row} {top : ℕ} {below : L
           pushes = es;
           within = s .within;
           linked = rw at (linked-kept below i b (getD below e 0) es (l .2));
-          stacked = ap (stackNext pop) h ∙ popped-of-pushed (keyAt w e) (pushedOn w bottom es);
+          stacked = ap (stackNext pop) h ∙ popped-of-pushed (entryKey w e) (pushedOn w bottom es);
         })
 
     pub popped-first : top ≡ 0 → Stacked w (i + 1) first (stackNext pop rows) top (set below i b)
@@ -129,23 +129,23 @@ top-none [] e = refl
 top-none (r ∷ rs) e = absurd (omega arith)
 
 module _ (w : List ℕ) (o count top : ℕ) where
-  pub top-pushed : (top ≡ 0 → ⊥) → (x : ℕ) → x ≡ keyAt w (top - 1) → TopBy w o count top (replied 1 x)
+  pub top-pushed : (top ≡ 0 → ⊥) → (x : ℕ) → x ≡ entryKey w (top - 1) → TopBy w o count top (answering 1 x)
   top-pushed n x named i rows below s c =
       by-top s (λ t h. absurd (n t))
       (λ e es l h.
       let at : top - 1 ≡ e = omega (arith, l .0) in
-      ap (λ (j : ℕ). replied 1 j) (named ∙ ap (keyAt w) at)
-      ∙ ap valued (sym (ap topItem h ∙ top-of-pushed (keyAt w e) (pushedOn w (take (s .low) (rowsAt w o)) es))))
+      ap (λ (j : ℕ). answering 1 j) (named ∙ ap (entryKey w) at)
+      ∙ ap valued (sym (ap topItem h ∙ top-of-pushed (entryKey w e) (pushedOn w (take (s .low) (rowsAt w o)) es))))
 
-  pub top-empty : count ≡ 0 → TopBy w o count top (replied 0 0)
+  pub top-empty : count ≡ 0 → TopBy w o count top (answering 0 0)
   top-empty z i rows below s c = ap valued (sym (top-none rows (c ∙ z)))
 
   pub top-first : top ≡ 0 → (count ≡ 0 → ⊥) → (t x : ℕ) → t ≡ count - 1 → x ≡ rowAt w o t .key
-      → TopBy w o count top (replied 1 x)
+      → TopBy w o count top (answering 1 x)
   top-first z n t x q named i rows below s c =
       let h : rows ≡ take (s .low) (rowsAt w o) = of-first s z in
       let m : length rows ≡ s .low = ap length h ∙ length-take-le (s .low) (rowsAt w o) (s .within) in
-      ap (λ (j : ℕ). replied 1 j) named
+      ap (λ (j : ℕ). answering 1 j) named
       ∙ ap valued
       (sym
       (top-at rows t (omega (arith, c, n))

@@ -11,7 +11,8 @@ use Rattle.statuses.proofs.close_ranks.Tie as tie
 
 abbrev Inv-loop : tie.InvT-loop
 Inv-loop book₀ out t₀ book t =
-    (t ≤ 64) × (length book ≡ 3937) × (changed (loweredWord out) (64 - t) (1 + t) book ≡ changed (loweredWord out) 64 1 book₀)
+    (t ≤ 64) × (length book ≡ 3937)
+    × (changed (loweredWord out) (64 - t) (1 + t) book ≡ changed (loweredWord out) 64 1 book₀)
 
 abbrev μ-loop : tie.MeasureT-loop
 μ-loop book₀ out t₀ book t = 64 - t
@@ -24,7 +25,8 @@ loop-again c =
     let loop = c .before .before .before .loop in (
       omega arith,
       length-set (loop .book) (1 + loop .t) (c .lowered .result) ∙ loop .inv .1,
-      changed-turn (loweredWord (c .before .before .before .before .before .args .out)) (loop .book) (loop .t) (c .lowered .result) (c .before .before .loop-test .taken) (c .lowered .ensures)
+      changed-turn (loweredWord (c .before .before .before .before .before .args .out)) (loop .book) (loop .t)
+          (c .lowered .result) (c .before .before .loop-test .taken) (c .lowered .ensures)
           ∙ loop .inv .2,
     )
 

@@ -9,7 +9,8 @@ use Rattle.statuses.proofs.next_rank.Statement.{statement}
 use Rattle.statuses.proofs.next_rank.Tie as tie
 
 abbrev Inv-loop : tie.InvT-loop
-Inv-loop book count₀ transaction₀ count transaction = (transaction ≤ 64) × (count ≤ transaction) × (count ≡ countUpto book transaction)
+Inv-loop book count₀ transaction₀ count transaction =
+    (transaction ≤ 64) × (count ≤ transaction) × (count ≡ countUpto book transaction)
 
 abbrev μ-loop : tie.MeasureT-loop
 μ-loop book count₀ transaction₀ count transaction = 64 - transaction
@@ -23,8 +24,16 @@ loop-again c =
     let n = read .before .before .loop .transaction in
     let book = read .before .before .before .before .args .book .now in
     ⊎-elim
-    (λ w. (omega arith, omega arith, omega (arith, count-more book n (read .status-word .result) (read .status-word .ensures) (w .0 .taken))))
-    (λ w. (omega arith, omega arith, omega (arith, count-same book n (read .status-word .result) (read .status-word .ensures) (w .0 .left))))
+    (λ w. (
+      omega arith,
+      omega arith,
+      omega (arith, count-more book n (read .status-word .result) (read .status-word .ensures) (w .0 .taken)),
+    ))
+    (λ w. (
+      omega arith,
+      omega arith,
+      omega (arith, count-same book n (read .status-word .result) (read .status-word .ensures) (w .0 .left)),
+    ))
     (c .if1 .came)
 
 returns : tie.Need-returns Inv-loop μ-loop

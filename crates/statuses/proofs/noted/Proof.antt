@@ -23,7 +23,8 @@ returns-3 c =
     noted-new (args .ranks) (args .status) (asked .before .before .if1 .left) (c .join .result)
     (asked .before .if2 .left)
     (sym (asked .contains .ensures) ∙ c .before .before .if3 .left)
-    (with-one (args .ranks .seen) (args .status - 2) (c .before .single .result) (c .join .result) (c .before .single .ensures) (c .join .ensures))
+    (with-one (args .ranks .seen) (args .status - 2) (c .before .single .result) (c .join .result)
+    (c .before .single .ensures) (c .join .ensures))
 
 pub noted-spec : {M : Type 1} → statement M
 noted-spec =

@@ -10,7 +10,8 @@ use Rattle.store.specs.Layout.{word, tabulate, statusAt, readStatus}
 use Rattle.store.specs.Laws.Lists.{tabulate-zero, tabulate-snoc}
 use Rattle.statuses.specs.Laws.Words.{finished-read}
 
-finished-last : (l : List Status) (status : Status) → pseudoCommittedIn (l ++ (status ∷ [])) ≡ pseudoCommittedIn l + pseudoCommittedIn (status ∷ [])
+finished-last : (l : List Status) (status : Status)
+    → pseudoCommittedIn (l ++ (status ∷ [])) ≡ pseudoCommittedIn l + pseudoCommittedIn (status ∷ [])
 finished-last [] status = omega arith
 finished-last (absent ∷ l) status = finished-last l status
 finished-last (active ∷ l) status = finished-last l status

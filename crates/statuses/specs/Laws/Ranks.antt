@@ -29,17 +29,20 @@ replaced n f t = cond (eqb (f t) (suc n)) (f n) (f t)
 
 module _ (n : ℕ) (f : ℕ → ℕ) (r : ℕ) (l : r ≤ n) where
   moved : f n ≡ r → Value (suc n) f (suc n) → Value n (replaced n f) r
-  moved e (t, m, top) = same t n (λ q. absurd (omega (arith, ap f q))) (λ other. (t, omega arith, rw (eq-eqb (f t) (suc n) top) e))
+  moved e (t, m, top) =
+      same t n (λ q. absurd (omega (arith, ap f q))) (λ other. (t, omega arith, rw (eq-eqb (f t) (suc n) top) e))
 
   kept : (f n ≡ r → ⊥) → Value (suc n) f r → Value n (replaced n f) r
   kept apart (t, m, e) =
-      same t n (λ q. absurd (apart (sym (ap f q) ∙ e))) (λ other. (t, omega arith, rw (ne-eqb (f t) (suc n) (omega arith)) e))
+      same t n (λ q. absurd (apart (sym (ap f q) ∙ e)))
+      (λ other. (t, omega arith, rw (ne-eqb (f t) (suc n) (omega arith)) e))
 
 no-onto : (n : ℕ) (f : ℕ → ℕ) → ((r : ℕ) → r ≤ n → Value n f r) → ⊥
 no-onto zero f onto = not-suc-le-zero (onto 0 (omega arith) .1)
 no-onto (suc n) f onto =
     no-onto n (replaced n f)
-    (λ r l. same (f n) r (λ e. moved n f r l e (onto (suc n) (omega arith))) (λ apart. kept n f r l apart (onto r (omega arith))))
+    (λ r l. same (f n) r (λ e. moved n f r l e (onto (suc n) (omega arith)))
+    (λ apart. kept n f r l apart (onto r (omega arith))))
 
 -- ---- What is seen of the transactions below n
 
@@ -55,7 +58,8 @@ module _ (s : Store) where
 
   -- No two transactions below n have one rank.
   abbrev pub Different : ℕ → Type 0
-  Different n = (t u rank : ℕ) → t < n → u < n → statusOf s t ≡ pseudoCommitted rank → statusOf s u ≡ pseudoCommitted rank → t ≡ u
+  Different n =
+      (t u rank : ℕ) → t < n → u < n → statusOf s t ≡ pseudoCommitted rank → statusOf s u ≡ pseudoCommitted rank → t ≡ u
 
   pub record Seen (n : ℕ) (ranks : Ranks) : Type 0 where
     pub holds : ranks .once ≡ true → Holds (ranks .seen) (Given n) × Different n
@@ -87,12 +91,14 @@ module _ (s : Store) where
 
   module _ (n rank : ℕ) (own : statusOf s n ≡ pseudoCommitted rank) where
     -- A rank that was not seen joins.
-    module _ (before after : Ranks) (new : has (before .seen) rank ≡ false) (members : Members (after .seen) (λ h. has (before .seen) h || eqb h rank)) where
+    module _ (before after : Ranks) (new : has (before .seen) rank ≡ false)
+        (members : Members (after .seen) (λ h. has (before .seen) h || eqb h rank)) where
       module _ (known : Holds (before .seen) (Given n)) where
         given-now : (r : ℕ) → Given (n + 1) r → has (after .seen) r ≡ true
         given-now r (t, l, e) =
             let more = one-more (before .seen) (after .seen) rank members r in
-            same t n (λ q. more .1 (inr (same-rank r rank (sym (at n t r q e) ∙ own)))) (λ other. more .1 (inl (known r .1 (t, omega arith, e))))
+            same t n (λ q. more .1 (inr (same-rank r rank (sym (at n t r q e) ∙ own))))
+            (λ other. more .1 (inl (known r .1 (t, omega arith, e))))
 
         joined : Holds (after .seen) (Given (n + 1))
         joined r = (
@@ -106,18 +112,23 @@ module _ (s : Store) where
 
         -- No earlier transaction has the rank.
         apart : (t r : ℕ) → t < n → statusOf s t ≡ pseudoCommitted r → statusOf s n ≡ pseudoCommitted r → ⊥
-        apart t r l e f = false≢true (sym new ∙ known rank .1 (t, l, e ∙ ap pseudoCommitted (same-rank r rank (sym f ∙ own))))
+        apart t r l e f =
+            false≢true (sym new ∙ known rank .1 (t, l, e ∙ ap pseudoCommitted (same-rank r rank (sym f ∙ own))))
 
         different : Different n → Different (n + 1)
         different earlier t u r lt lu et eu =
             same t n
             (λ p. same u n (λ q. p ∙ sym q) (λ other. absurd (apart u r (omega arith) eu (at n t r p et))))
-            (λ first. same u n (λ q. absurd (apart t r (omega arith) et (at n u r q eu))) (λ other. earlier t u r (omega arith) (omega arith) et eu))
+            (λ first. same u n (λ q. absurd (apart t r (omega arith) et (at n u r q eu)))
+            (λ other. earlier t u r (omega arith) (omega arith) et eu))
 
       fresh : after .once ≡ before .once → Seen n before → Seen (n + 1) after
       fresh kept seen =
           record {
-            holds = λ e. (joined (seen .holds (sym kept ∙ e) .0), different (seen .holds (sym kept ∙ e) .0) (seen .holds (sym kept ∙ e) .1));
+            holds = λ e. (
+              joined (seen .holds (sym kept ∙ e) .0),
+              different (seen .holds (sym kept ∙ e) .0) (seen .holds (sym kept ∙ e) .1),
+            );
             fails = λ e. seen .fails (sym kept ∙ e);
           }
 
@@ -139,19 +150,23 @@ module _ (s : Store) where
     large : (t rank : ℕ) → statusOf s t ≡ pseudoCommitted rank → 64 ≤ rank → WithoutGaps s → ⊥
     large t rank own high gapless =
         no-onto 64 (λ u. rankOf (statusOf s u))
-        (λ r l. holder r (same r rank (λ e. (t, own ∙ ap pseudoCommitted (sym e))) (λ other. gapless t rank r own (omega arith))))
+        (λ r l. holder r
+        (same r rank (λ e. (t, own ∙ ap pseudoCommitted (sym e))) (λ other. gapless t rank r own (omega arith))))
 
-    pub next : (n : ℕ) (status : Status) (before after : Ranks) → statusOf s n ≡ status → Noted status before after → Seen n before → Seen (n + 1) after
+    pub next : (n : ℕ) (status : Status) (before after : Ranks) → statusOf s n ≡ status → Noted status before after
+        → Seen n before → Seen (n + 1) after
     next n absent before after own noted seen =
         subst (Seen (n + 1)) (sym noted) (unranked n (λ rank e. absent-unranked rank (sym own ∙ e)) before seen)
     next n active before after own noted seen =
         subst (Seen (n + 1)) (sym noted) (unranked n (λ rank e. active-unranked rank (sym own ∙ e)) before seen)
-    next n (pseudoCommitted rank) before after own (inl noted) seen = fresh n rank own before after (noted .1) (noted .2) (noted .3) seen
+    next n (pseudoCommitted rank) before after own (inl noted) seen =
+        fresh n rank own before after (noted .1) (noted .2) (noted .3) seen
     next n (pseudoCommitted rank) before after own (inr noted) seen =
         record {
           holds = λ e. absurd (false≢true (sym (noted .1) ∙ e));
           fails = λ e each gapless.
-              ⊎-elim (λ high. large n rank own high gapless) (λ old. twice n rank own before old seen each gapless) (noted .0);
+              ⊎-elim (λ high. large n rank own high gapless)
+              (λ old. twice n rank own before old seen each gapless) (noted .0);
         }
 
     -- After all transactions.
@@ -166,7 +181,8 @@ module _ (s : Store) where
         gapless : Downward (ranks .seen) → WithoutGaps s
         gapless down t rank r e l = owner r (known r .0 (downward (ranks .seen) down rank r l (given rank (t, e))))
 
-        lower : WithoutGaps s → (r : ℕ) → (t : ℕ) × (statusOf s t ≡ pseudoCommitted (suc r)) → has (ranks .seen) r ≡ true
+        lower : WithoutGaps s → (r : ℕ) → (t : ℕ) × (statusOf s t ≡ pseudoCommitted (suc r))
+            → has (ranks .seen) r ≡ true
         lower full r (t, e) = given r (full t (suc r) r e (omega arith))
 
       once : OnceEach s × WithoutGaps s → ranks .once ≡ true

@@ -49,9 +49,11 @@ module _ (ranks : Ranks) (status : ℕ) where
   noted-none l = bit (λ x. Noted (readStatus x) ranks ranks) refl refl status l
 
   module _ (l : 2 ≤ status) where
-    pub noted-again : (64 ≤ status - 2) ⊎ (has (ranks .seen) (status - 2) ≡ true) → Noted (readStatus status) ranks (record { seen = ranks .seen; once = false })
+    pub noted-again : (64 ≤ status - 2) ⊎ (has (ranks .seen) (status - 2) ≡ true)
+        → Noted (readStatus status) ranks (record { seen = ranks .seen; once = false })
     noted-again old = rw (finished-read status l) (inr (old, refl))
 
     pub noted-new : (next : ℕ) → status - 2 < 64 → has (ranks .seen) (status - 2) ≡ false
-        → Members next (λ h. has (ranks .seen) h || eqb h (status - 2)) → Noted (readStatus status) ranks (record { seen = next; once = ranks .once })
+        → Members next (λ h. has (ranks .seen) h || eqb h (status - 2))
+        → Noted (readStatus status) ranks (record { seen = next; once = ranks .once })
     noted-new next m new members = rw (finished-read status l) (inl (m, new, members, refl))

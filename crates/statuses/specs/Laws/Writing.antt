@@ -7,30 +7,15 @@ use native.Mathlib.Omega.{arith}
 use borrow.Author.Tests.{ltb-true}
 use lib.Dec.{ltb}
 use lib.ListN.{length, getD, set, length-append, length-map}
-use lib.Seq.{set-append-left, set-append-seam, getD-append-seam}
-use Rattle.operations.specs.Laws.Cases.{map-set}
+use lib.Seq.{set-append-seam, getD-append-seam}
 use Rattle.bitset.specs.Laws.{bit}
 use Rattle.store.specs.Store.{Status, Store}
-use Rattle.store.specs.Layout.{base, decode, encode, Packed, statusWord, readStatus}
-use Rattle.store.specs.Steps.{withStatus, lowered, closedUp}
-use Rattle.store.specs.Laws.Encoding.{status-written, status-read}
+use Rattle.store.specs.Layout.{base, decode, encode, Packed, statusWord}
+use Rattle.store.specs.Steps.{lowered, closedUp}
+use Rattle.store.specs.Laws.Encoding.{status-read}
 use Rattle.store.specs.Theorems.{encoded, representable}
 use Rattle.statuses.specs.Statuses.{loweredWord}
 use Rattle.statuses.specs.Laws.Words.{finished-read}
-
--- ---- One status
-
-status-set : (s : Store) (t : ℕ) (status : Status) → t < length (s .statuses) → set (encode base s) (1 + t) (statusWord status) ≡ encode base (withStatus t status s)
-unfolding encode
-status-set s t status l =
-    let e : 1 + t ≡ suc t = omega arith in
-    let words = map statusWord (s .statuses) in
-    rw (e, set-append-left words _ t (statusWord status) (rw (length-map (s .statuses) statusWord) l), ← map-set statusWord (s .statuses) t status)
-
-pub written : (w : List ℕ) → Packed base w → (t x : ℕ) → t < 64 → set w (1 + t) x ≡ encode base (withStatus t (readStatus x) (decode base w))
-written w packed t x l =
-    ap₂ (λ (v : List ℕ) (y : ℕ). set v (1 + t) y) (sym (encoded w packed)) (sym (status-written x))
-    ∙ status-set (decode base w) t (readStatus x) (rw (representable w packed .statuses) l)
 
 -- ---- All statuses in turn
 
@@ -50,7 +35,8 @@ module _ (f : ℕ → ℕ) where
   changed-part p (x ∷ ws) rest =
       let e : length (p ++ (f x ∷ [])) ≡ suc (length p) = simp length-append (omega arith) in
       changed-first (length ws) (length p) (p ++ (x ∷ (ws ++ rest)))
-      ∙ rw (getD-append-seam p x (ws ++ rest) 0, set-append-seam p x (ws ++ rest) (f x)) (simp (e, append-assoc) at (changed-part (p ++ (f x ∷ [])) ws rest))
+      ∙ rw (getD-append-seam p x (ws ++ rest) 0, set-append-seam p x (ws ++ rest) (f x))
+      (simp (e, append-assoc) at (changed-part (p ++ (f x ∷ [])) ws rest))
 
   -- A turn of the loop over words 1 to 64, and its end.
   pub changed-turn : (w : List ℕ) (t value : ℕ) → t < 64 → value ≡ f (getD w (1 + t) 0)
@@ -77,15 +63,21 @@ module _ (out : ℕ) where
 
   words-lowered : (l : List Status) → map (loweredWord out) (map statusWord l) ≡ map statusWord (map (lowered out) l)
   words-lowered [] = refl
-  words-lowered (x ∷ l) = ap₂ (λ (n : ℕ) (m : List ℕ). n ∷ m) (ap (λ (y : Status). statusWord (lowered out y)) (status-read x)) (words-lowered l)
+  words-lowered (x ∷ l) =
+      ap₂ (λ (n : ℕ) (m : List ℕ). n ∷ m)
+      (ap (λ (y : Status). statusWord (lowered out y)) (status-read x)) (words-lowered l)
 
-  store-lowered : (s : Store) → length (s .statuses) ≡ 64 → changed (loweredWord out) 64 1 (encode base s) ≡ encode base (closedUp out s)
+  store-lowered : (s : Store) → length (s .statuses) ≡ 64
+      → changed (loweredWord out) 64 1 (encode base s) ≡ encode base (closedUp out s)
   unfolding encode
   store-lowered s l =
       let size : length (map statusWord (s .statuses)) ≡ 64 = length-map (s .statuses) statusWord ∙ l in
       rw (← words-lowered (s .statuses))
-      (ap (λ (n : ℕ). changed (loweredWord out) n 1 (encode base s)) (sym size) ∙ changed-part (loweredWord out) (length (s .log) ∷ []) (map statusWord (s .statuses)) _)
+      (ap (λ (n : ℕ). changed (loweredWord out) n 1 (encode base s)) (sym size)
+      ∙ changed-part (loweredWord out) (length (s .log) ∷ []) (map statusWord (s .statuses)) _)
 
-  pub all-lowered : (w : List ℕ) → Packed base w → changed (loweredWord out) 64 1 w ≡ encode base (closedUp out (decode base w))
+  pub all-lowered : (w : List ℕ) → Packed base w
+      → changed (loweredWord out) 64 1 w ≡ encode base (closedUp out (decode base w))
   all-lowered w packed =
-      ap (changed (loweredWord out) 64 1) (sym (encoded w packed)) ∙ store-lowered (decode base w) (representable w packed .statuses)
+      ap (changed (loweredWord out) 64 1) (sym (encoded w packed))
+      ∙ store-lowered (decode base w) (representable w packed .statuses)

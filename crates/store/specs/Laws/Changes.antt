@@ -1,4 +1,5 @@
--- What the changes of `Steps` leave as it is: statuses and objects by number, entries by transaction and object, and the room that a book has.
+-- What the changes of `Steps` leave as it is: statuses and objects by number, entries by transaction and object, and
+-- the room that a book has.
 use Prim.Native.Nat.{ℕ, zero, suc, _<_, _≤_}
 use mathlib.Core.Path.{_≡_, refl, ap, _∙_}
 use mathlib.Core.Bool.{Bool, true, false}
@@ -7,10 +8,11 @@ use native.Mathlib.Omega.{arith}
 use lib.Dec.{eqb}
 use lib.ListN.{length, getD, set, length-set, length-append, length-map, List·getD-map, List·getD-eq-default}
 use lib.Seq.{getD-set-same, getD-set-other}
-use Rattle.operations.specs.Operations.{Operation, Reply, All}
+use Rattle.operations.specs.Operations.{Operation, Answer, All}
 use Rattle.operations.specs.Log.{Entry, only}
 use Rattle.operations.specs.Laws.Cases.{split}
-use Rattle.store.specs.Store.{Status, absent, Object, noObject, Logged, Store, statusOf, objectOf, onObject, operationsOf}
+use Rattle.store.specs.Store.{Status, absent, Object, noObject, Logged, Store, statusOf, objectOf, onObject}
+use Rattle.store.specs.Store.{operationsOf}
 use Rattle.store.specs.Layout.{ObjectFits, Representable, base}
 use Rattle.store.specs.Steps.{appended, without, dropped, carried, folded, withStatus, lowered, closedUp}
 use Rattle.store.specs.Laws.Words.{below}
@@ -24,7 +26,8 @@ module _ {A : Type 0} where
   all-set P (y ∷ xs) (suc i) x a p = (a .0, all-set P xs i x (a .1) p)
 
   -- A store that keeps something of the element there keeps it of all.
-  set-kept : {B : Type 0} (f : A → B) (xs : List A) (i : ℕ) (x d : A) (j : ℕ) → f x ≡ f (getD xs i d) → f (getD (set xs i x) j d) ≡ f (getD xs j d)
+  set-kept : {B : Type 0} (f : A → B) (xs : List A) (i : ℕ) (x d : A) (j : ℕ) → f x ≡ f (getD xs i d)
+      → f (getD (set xs i x) j d) ≡ f (getD xs j d)
   set-kept f [] i x d j e = refl
   set-kept f (y ∷ xs) zero x d zero e = e
   set-kept f (y ∷ xs) zero x d (suc j) e = refl
@@ -69,13 +72,15 @@ without-length t (l ∷ log) =
     (λ (e : eqb (l .entry .transaction) t ≡ false). rw e (omega (arith, without-length t log)))
 
 -- Those of picked transactions, on one object.
-pub on-picked : (picked : ℕ → Bool) (o : ℕ) (log : List Logged) → onObject o (operationsOf picked log) ≡ only picked (onObject o log)
+pub on-picked : (picked : ℕ → Bool) (o : ℕ) (log : List Logged)
+    → onObject o (operationsOf picked log) ≡ only picked (onObject o log)
 on-picked picked o [] = refl
 on-picked picked o (l ∷ log) =
     split (picked (l .entry .transaction))
     (λ (e : picked (l .entry .transaction) ≡ true).
     split (eqb (l .object) o)
-    (λ (f : eqb (l .object) o ≡ true). simp (e, f) (ap (λ (m : List (Entry Operation Reply)). l .entry ∷ m) (on-picked picked o log)))
+    (λ (f : eqb (l .object) o ≡ true). simp (e, f)
+    (ap (λ (m : List (Entry Operation Answer)). l .entry ∷ m) (on-picked picked o log)))
     (λ (f : eqb (l .object) o ≡ false). simp (e, f) (on-picked picked o log)))
     (λ (e : picked (l .entry .transaction) ≡ false).
     split (eqb (l .object) o)
@@ -86,7 +91,8 @@ pub on-append : (o : ℕ) (log more : List Logged) → onObject o (log ++ more) 
 on-append o [] more = refl
 on-append o (l ∷ log) more =
     split (eqb (l .object) o)
-    (λ (f : eqb (l .object) o ≡ true). rw f (ap (λ (m : List (Entry Operation Reply)). l .entry ∷ m) (on-append o log more)))
+    (λ (f : eqb (l .object) o ≡ true). rw f
+    (ap (λ (m : List (Entry Operation Answer)). l .entry ∷ m) (on-append o log more)))
     (λ (f : eqb (l .object) o ≡ false). rw f (on-append o log more))
 
 -- ---- Room in a book
@@ -94,22 +100,43 @@ on-append o (l ∷ log) more =
 module _ (s : Store) (r : Representable base s) where
   pub representable-status : (t : ℕ) (status : Status) → Representable base (withStatus t status s)
   representable-status t status =
-      record { statuses = length-set (s .statuses) t status ∙ r .statuses; objects = r .objects; fit = r .fit; entries = r .entries }
+      record {
+        statuses = length-set (s .statuses) t status ∙ r .statuses;
+        objects = r .objects;
+        fit = r .fit;
+        entries = r .entries;
+      }
 
   pub representable-closed : (out : ℕ) → Representable base (closedUp out s)
   representable-closed out =
-      record { statuses = length-map (s .statuses) (lowered out) ∙ r .statuses; objects = r .objects; fit = r .fit; entries = r .entries }
+      record {
+        statuses = length-map (s .statuses) (lowered out) ∙ r .statuses;
+        objects = r .objects;
+        fit = r .fit;
+        entries = r .entries;
+      }
 
   pub representable-dropped : (t : ℕ) → Representable base (dropped t s)
   representable-dropped t =
-      record { statuses = r .statuses; objects = r .objects; fit = r .fit; entries = omega (arith, without-length t (s .log), r .entries) }
+      record {
+        statuses = r .statuses;
+        objects = r .objects;
+        fit = r .fit;
+        entries = omega (arith, without-length t (s .log), r .entries);
+      }
 
   pub representable-appended : (l : Logged) → length (s .log) < 256 → Representable base (appended l s)
   representable-appended l room =
-      record { statuses = r .statuses; objects = r .objects; fit = r .fit; entries = omega (arith, length-append (s .log) (l ∷ [])) }
+      record {
+        statuses = r .statuses;
+        objects = r .objects;
+        fit = r .fit;
+        entries = omega (arith, length-append (s .log) (l ∷ []));
+      }
 
   -- Where the object has a kind and the rows after are at most 64.
-  pub representable-folded : (object : ℕ) (o : Operation) → ObjectFits (carried o (objectOf s object)) → Representable base (folded object o s)
+  pub representable-folded : (object : ℕ) (o : Operation) → ObjectFits (carried o (objectOf s object))
+      → Representable base (folded object o s)
   representable-folded object o fits =
       record {
         statuses = r .statuses;

@@ -8,25 +8,32 @@ use mathlib.Core.List.{List, [], _∷_}
 use native.Mathlib.Decide.{ℕ-discrete, decLe, decLt}
 use native.Mathlib.Omega.{arith}
 use lib.ListN.{length, List·getD-eq-default}
-use Rattle.operations.specs.Operations.{Kind, Stack, Set, Table, Row, Reply, replied, Operation, onStack, onSet, onTable, kindOf, Ascending, WellFormed, numberOf, keyOf, valueOf, StoredKey}
-use Rattle.operations.specs.Log.{ObjectType, Entry, Recoverable, Answered}
+use Rattle.operations.specs.Operations.{Kind, Stack, Set, Table, Row, Answer, answering, Operation, onStack, onSet}
+use Rattle.operations.specs.Operations.{onTable, kindOf, Ascending, WellFormed, numberOf, keyOf, valueOf, StoredKey}
+use Rattle.operations.specs.Log.{Entry, Recoverable, Answered}
+use Rattle.operations.specs.Laws.ObjectTypes.{ObjectType}
 use Rattle.operations.specs.Laws.Objects.{object}
-use Rattle.store.specs.Store.{Status, absent, pseudoCommitted, Logged, Store, statusOf, objectOf, Live, PseudoCommitted, onObject}
+use Rattle.store.specs.Layout.{bookWords}
+use Rattle.store.specs.Store.{Status, absent, pseudoCommitted, Logged, Store, statusOf, objectOf, Live}
+use Rattle.store.specs.Store.{PseudoCommitted, onObject}
 use Rattle.store.specs.Dependency.{DependsOn, OnCycle}
-use Rattle.store.specs.Layout.{Format, word, statusWord, readStatus, kindWord, readKind, entryStart, operationAt, AsStored, LogPacked, objectStart, ObjectPacked, decode, base}
-use Rattle.store.specs.Soundness.{OfKind, EntriesFit, Room, OnceEach, WithoutGaps, Acyclic, Dependent, Unsettled, SoundStore, Sound}
+use Rattle.store.specs.Layout.{Format, word, statusWord, readStatus, kindWord, readKind, entryStart, operationAt}
+use Rattle.store.specs.Layout.{AsStored, LogPacked, objectStart, ObjectPacked, decode, base}
+use Rattle.store.specs.Soundness.{EachObject, EntriesFit, Room, OnceEach, WithoutGaps, Acyclic, Dependent}
+use Rattle.store.specs.Soundness.{Unsettled, SoundStore, Sound}
 use Rattle.store.specs.Laws.Encoding.{status-read}
 use Rattle.store.specs.Laws.Objects.{kind-read}
 use Rattle.store.specs.Laws.Statuses.{same-rank, live-within, pseudo-committed-within, kind-within}
 use Rattle.store.specs.Laws.Capacity.{past-room}
-use Rattle.store.specs.Laws.Deciding.{alike, implies, and-then, all-three, all-four, by-number, all, made-of, all-below, every, some-below}
+use Rattle.store.specs.Laws.Deciding.{alike, implies, and-then, all-three, all-four, by-number, all, made-of}
+use Rattle.store.specs.Laws.Deciding.{all-below, every, some-below}
 use Rattle.store.specs.Laws.Graph.{depends-on, pseudo-committed, cycle}
 
--- ---- Rows, operations and replies
+-- ---- Rows, operations and answers
 
-same-reply : (r q : Reply) → Dec (r ≡ q)
-same-reply r q =
-    alike (λ h i. replied (h .0 i) (h .1 i), λ e. (ap (λ (x : Reply). x .code) e, ap (λ (x : Reply). x .value) e))
+same-answer : (r q : Answer) → Dec (r ≡ q)
+same-answer r q =
+    alike (λ h i. answering (h .0 i) (h .1 i), λ e. (ap (λ (x : Answer). x .code) e, ap (λ (x : Answer). x .value) e))
     (Dec·and (ℕ-discrete (r .code) (q .code)) (ℕ-discrete (r .value) (q .value)))
 
 ascending : (rs : List Row) → Dec (Ascending rs)
@@ -39,7 +46,8 @@ module _ (reduce : ℕ → ℕ) where
 
   well-formed : (kind : Kind) (rs : List Row) → Dec (WellFormed reduce kind rs)
   well-formed Stack rs = all (λ (r : Row). ℕ-discrete (r .value) 0) rs
-  well-formed Set rs = all-three (all (λ (r : Row). ℕ-discrete (r .value) 0) rs) (all (λ (r : Row). reduced (r .key)) rs) (ascending rs)
+  well-formed Set rs =
+      all-three (all (λ (r : Row). ℕ-discrete (r .value) 0) rs) (all (λ (r : Row). reduced (r .key)) rs) (ascending rs)
   well-formed Table rs = Dec·and (all (λ (r : Row). reduced (r .key)) rs) (ascending rs)
 
   stored-key : (o : Operation) → Dec (StoredKey reduce o)
@@ -50,20 +58,23 @@ module _ (reduce : ℕ → ℕ) where
 -- ---- One object's log
 
 module _ (X : ObjectType) where
-  open ObjectType X using (State, Operation, Reply, next, reply, recoverable)
+  open ObjectType X using (State, Operation, Answer, next, answer, recoverable)
 
-  all-recoverable : (l : List (Entry Operation Reply)) → Dec (Recoverable X l)
+  all-recoverable : (l : List (Entry Operation Answer)) → Dec (Recoverable (X .recoverable) l)
   all-recoverable [] = yes tt
   all-recoverable (e ∷ l) =
       Dec·and
       (all
-      (λ (x : Entry Operation Reply).
-      implies (Dec·not (ℕ-discrete (x .transaction) (e .transaction))) (Bool-discrete (recoverable (x .operation) (e .operation)) true)) l)
+      (λ (x : Entry Operation Answer).
+      implies (Dec·not (ℕ-discrete (x .transaction) (e .transaction)))
+      (Bool-discrete (recoverable (x .operation) (e .operation)) true)) l)
       (all-recoverable l)
 
-  all-answered : ((r q : Reply) → Dec (r ≡ q)) → (l : List (Entry Operation Reply)) (s : State) → Dec (Answered X l s)
+  all-answered : ((r q : Answer) → Dec (r ≡ q))
+      → (l : List (Entry Operation Answer)) (s : State) → Dec (Answered (X .next) (X .answer) l s)
   all-answered alike [] s = yes tt
-  all-answered alike (e ∷ l) s = Dec·and (alike (reply (e .operation) s) (e .answer)) (all-answered alike l (next (e .operation) s))
+  all-answered alike (e ∷ l) s =
+      Dec·and (alike (answer (e .operation) s) (e .answer)) (all-answered alike l (next (e .operation) s))
 
 -- ---- A store
 
@@ -75,17 +86,20 @@ kinded none = no (λ h. Option·none-ne-some (h .0) (h .1))
 kinded (some k) = yes (k, refl)
 
 module _ (s : Store) where
-  of-kind : (P : ℕ → Kind → Type 0) → ((o : ℕ) (kind : Kind) → Dec (P o kind)) → Dec (OfKind P s)
+  of-kind : (P : ℕ → Kind → Type 0) → ((o : ℕ) (kind : Kind) → Dec (P o kind)) → Dec (EachObject P s)
   of-kind P d =
       every (length (s .objects)) (λ o. (kind : Kind) → objectOf s o .kind ≡ some kind → P o kind)
-      (λ o. made-of (P o) some (λ a b. Option·some-injective a b) (objectOf s o .kind) (kinded (objectOf s o .kind)) (d o))
+      (λ o. made-of (P o) some (λ a b. Option·some-injective a b) (objectOf s o .kind)
+      (kinded (objectOf s o .kind)) (d o))
       (λ o past kind e. absurd (omega (arith, kind-within s o kind e)))
 
   base-room : EntriesFit s → Dec (Room base s)
-  base-room fits = every (length (s .objects)) (λ o. base .used s o ≤ 64) (λ o. decLe (base .used s o) 64) (past-room s fits)
+  base-room fits =
+      every (length (s .objects)) (λ o. base .used s o ≤ 64) (λ o. decLe (base .used s o) 64) (past-room s fits)
 
   -- Such it is with each transaction that has a rank.
-  of-rank : (P : ℕ → ℕ → Type 0) → ((t rank : ℕ) → Dec (P t rank)) → Dec ((t rank : ℕ) → statusOf s t ≡ pseudoCommitted rank → P t rank)
+  of-rank : (P : ℕ → ℕ → Type 0) → ((t rank : ℕ) → Dec (P t rank))
+      → Dec ((t rank : ℕ) → statusOf s t ≡ pseudoCommitted rank → P t rank)
   of-rank P d =
       every (length (s .statuses)) (λ t. (rank : ℕ) → statusOf s t ≡ pseudoCommitted rank → P t rank)
       (λ t. made-of (P t) pseudoCommitted same-rank (statusOf s t) (pseudo-committed s t) (d t))
@@ -103,7 +117,8 @@ module _ (s : Store) where
   ranked : (rank : ℕ) → Dec ((u : ℕ) × (statusOf s u ≡ pseudoCommitted rank))
   ranked rank =
       alike (λ h. (h .0, h .2), λ h. (h .0, pseudo-committed-within s (h .0) (rank, h .1), h .1))
-      (some-below (length (s .statuses)) (λ u. statusOf s u ≡ pseudoCommitted rank) (λ u. same-status (statusOf s u) (pseudoCommitted rank)))
+      (some-below (length (s .statuses)) (λ u. statusOf s u ≡ pseudoCommitted rank)
+      (λ u. same-status (statusOf s u) (pseudoCommitted rank)))
 
   gapless : Dec (WithoutGaps s)
   gapless =
@@ -144,23 +159,29 @@ module _ (s : Store) where
             gapless = h .1 .1 .1;
             acyclic = h .1 .1 .2;
           },
-          λ p. ((p .rows, p .live, p .fits, p .reduced), ((p .recoverable, p .answered, p .room), (p .once, p .gapless, p .acyclic))),
+          λ p. (
+            (p .rows, p .live, p .fits, p .reduced),
+            ((p .recoverable, p .answered, p .room), (p .once, p .gapless, p .acyclic)),
+          ),
         )
         (and-then
         (all-four (of-kind _ (λ o kind. well-formed (format .reduce) kind (objectOf s o .rows)))
         (all (λ (l : Logged). Dec·not (same-status (statusOf s (l .entry .transaction)) absent)) (s .log))
-        (all (λ (l : Logged). by-number kindWord readKind kind-read (objectOf s (l .object) .kind) (some (kindOf (l .entry .operation)))) (s .log))
+        (all (λ (l : Logged). by-number kindWord readKind kind-read (objectOf s (l .object) .kind)
+        (some (kindOf (l .entry .operation)))) (s .log))
         (all (λ (l : Logged). stored-key (format .reduce) (l .entry .operation)) (s .log)))
         (λ h.
         Dec·and
         (all-three (of-kind _ (λ o kind. all-recoverable (object (format .reduce) kind) (onObject o (s .log))))
-        (of-kind _ (λ o kind. all-answered (object (format .reduce) kind) same-reply (onObject o (s .log)) (objectOf s o .rows)))
+        (of-kind _
+        (λ o kind. all-answered (object (format .reduce) kind) same-answer (onObject o (s .log)) (objectOf s o .rows)))
         (room (h .2)))
         (all-three once gapless acyclic)))
 
     sound-store : Dec (SoundStore format s)
     sound-store =
-        alike (λ h. record { unsettled = h .0; dependent = h .1 }, λ p. (p .unsettled, p .dependent)) (Dec·and unsettled dependent)
+        alike (λ h. record { unsettled = h .0; dependent = h .1 }, λ p. (p .unsettled, p .dependent))
+        (Dec·and unsettled dependent)
 
 -- ---- A book's words
 
@@ -173,8 +194,10 @@ module _ (w : List ℕ) where
       (λ i.
       let start = entryStart i in
       let o = operationAt w i in
-      all-three (ℕ-discrete (numberOf o) (word w (start + 2))) (ℕ-discrete (keyOf o) (word w (start + 3))) (ℕ-discrete (valueOf o) (word w (start + 4)))))
-      (every (length w) (λ i. entryStart (word w 0) ≤ i → word w i ≡ 0) (λ i. implies (decLe (entryStart (word w 0)) i) (ℕ-discrete (word w i) 0))
+      all-three (ℕ-discrete (numberOf o) (word w (start + 2))) (ℕ-discrete (keyOf o) (word w (start + 3)))
+      (ℕ-discrete (valueOf o) (word w (start + 4)))))
+      (every (length w) (λ i. entryStart (word w 0) ≤ i → word w i ≡ 0)
+      (λ i. implies (decLe (entryStart (word w 0)) i) (ℕ-discrete (word w i) 0))
       (λ i past l. List·getD-eq-default w 0 past)))
 
   object-packed : (o : ℕ) → Dec (ObjectPacked w o)
@@ -189,14 +212,15 @@ module _ (w : List ℕ) where
       (all-below 128 (λ i. 2 * word w (start + 1) ≤ i → word w (start + 2 + i) ≡ 0)
       (λ i. implies (decLe (2 * word w (start + 1)) i) (ℕ-discrete (word w (start + 2 + i)) 0))))
 
-  module _ (format : Format) (objects : Dec (format .ObjectsPacked w)) (room : EntriesFit (decode format w) → Dec (Room format (decode format w))) where
+  module _ (format : Format) (objects : Dec (format .ObjectsPacked w))
+      (room : EntriesFit (decode format w) → Dec (Room format (decode format w))) where
     sound : Dec (Sound format w)
     sound =
         alike (
           λ h. record { packed = record { words = h .0; objects = h .1; log = h .2 }; store = h .3 },
           λ p. (p .packed .words, p .packed .objects, p .packed .log, p .store),
         )
-        (all-four (ℕ-discrete (length w) 3_937) objects log-packed (sound-store (decode format w) format room))
+        (all-four (ℕ-discrete (length w) bookWords) objects log-packed (sound-store (decode format w) format room))
 
   pub base-sound : Dec (Sound base w)
   base-sound = sound base (all-below 16 (ObjectPacked w) object-packed) (base-room (decode base w))

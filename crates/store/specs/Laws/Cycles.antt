@@ -4,7 +4,7 @@ use mathlib.Core.Path.{_≡_}
 use mathlib.Core.Logic.{_↔_, inl, inr}
 use lib.ListN.{length}
 use Rattle.store.specs.Store.{Store, statusOf, Active, PseudoCommitted}
-use Rattle.store.specs.Dependency.{DependsOn, Way, Path, OnCycle}
+use Rattle.store.specs.Dependency.{DependsOn, Way, Leads, OnCycle}
 use Rattle.store.specs.Soundness.{Acyclic, Dependent}
 use Rattle.store.specs.Laws.Statuses.{live-ranked, pseudo-committed-within}
 use Rattle.store.specs.Laws.Ways.{widened, shortened, none-lead-on}
@@ -14,14 +14,14 @@ Anyone c = Unit {0}
 
 -- A way of dependencies leads to an active one.
 abbrev pub LeadsToActive : Store → ℕ → Type 0
-LeadsToActive s u = (v : ℕ) × Active s v × Path (DependsOn (s .log)) Anyone u v
+LeadsToActive s u = (v : ℕ) × Active s v × Leads (DependsOn (s .log)) Anyone u v
 
 module _ (s : Store) (sized : length (s .statuses) ≡ 64) where
   within : (t : ℕ) → PseudoCommitted s t → t < 64
   within t p = rw (← sized) (pseudo-committed-within s t p)
 
   -- A cycle of at most 64 steps is there exactly where one of any length is.
-  pub cycle-any-length : (t : ℕ) → t < 64 → OnCycle s t ↔ Path (DependsOn (s .log)) (PseudoCommitted s) t t
+  pub cycle-any-length : (t : ℕ) → t < 64 → OnCycle s t ↔ Leads (DependsOn (s .log)) (PseudoCommitted s) t t
   cycle-any-length t l = (λ w. (64, w), shortened (DependsOn (s .log)) (PseudoCommitted s) within t t l)
 
   module _ (acyclic : Acyclic s) (dependent : Dependent s) where
@@ -45,7 +45,8 @@ module _ (s : Store) (sized : length (s .statuses) ≡ 64) where
     leads-to-active u p n =
         none-lead-on (DependsOn (s .log)) Stuck (λ c h. within c (h .0)) leads-on
         (λ (c : ℕ) (h : Stuck c) (w : Way (DependsOn (s .log)) Stuck 64 c c).
-        acyclic c (h .0) (widened (DependsOn (s .log)) Stuck (PseudoCommitted s) (λ (y : ℕ) (q : Stuck y). q .0) 64 c c w))
+        acyclic c (h .0)
+        (widened (DependsOn (s .log)) Stuck (PseudoCommitted s) (λ (y : ℕ) (q : Stuck y). q .0) 64 c c w))
         u (p, n)
 
     -- So where none is active, none is left pseudo-committed.

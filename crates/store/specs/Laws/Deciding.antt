@@ -41,11 +41,13 @@ abbrev pub all-three : {P Q R : Type 0} → Dec P → Dec Q → Dec R → Dec (P
 all-three d e f = alike (λ h. (h .0, h .1 .0, h .1 .1), λ h. (h .0, (h .1, h .2))) (Dec·and d (Dec·and e f))
 
 abbrev pub all-four : {P Q R S : Type 0} → Dec P → Dec Q → Dec R → Dec S → Dec (P × Q × R × S)
-all-four d e f g = alike (λ h. (h .0, h .1 .0, h .1 .1, h .1 .2), λ h. (h .0, (h .1, h .2, h .3))) (Dec·and d (all-three e f g))
+all-four d e f g =
+    alike (λ h. (h .0, h .1 .0, h .1 .1, h .1 .2), λ h. (h .0, (h .1, h .2, h .3))) (Dec·and d (all-three e f g))
 
 -- What can be read back from its number is the same where the numbers are.
 pub by-number : {A : Type 0} (number : A → ℕ) (read : ℕ → A) → ((x : A) → read (number x) ≡ x) → (x y : A) → Dec (x ≡ y)
-by-number number read back x y = alike (λ e. sym (back x) ∙ ap read e ∙ back y, ap number) (ℕ-discrete (number x) (number y))
+by-number number read back x y =
+    alike (λ e. sym (back x) ∙ ap read e ∙ back y, ap number) (ℕ-discrete (number x) (number y))
 
 module _ {A : Type 0} where
   pub all : {P : A → Type 0} → ((x : A) → Dec (P x)) → (l : List A) → Dec (All P l)
@@ -61,7 +63,8 @@ module _ {A : Type 0} where
   follows d (e ∷ l) = either (any (d e) l) (follows d l)
 
 -- Such is the a of which x is f, where there is one; f is injective.
-pub made-of : {A B : Type 0} (P : A → Type 0) (f : A → B) → ((a b : A) → f a ≡ f b → a ≡ b) → (x : B) → Dec ((a : A) × (x ≡ f a))
+pub made-of : {A B : Type 0} (P : A → Type 0) (f : A → B) → ((a b : A) → f a ≡ f b → a ≡ b)
+    → (x : B) → Dec ((a : A) × (x ≡ f a))
     → ((a : A) → Dec (P a)) → Dec ((a : A) → x ≡ f a → P a)
 made-of P f injective x (yes (a, e)) d = alike (λ p b g. subst P (injective a b (sym e ∙ g)) p, λ h. h a e) (d a)
 made-of P f injective x (no n) d = yes (λ a e. absurd (n (a, e)))
@@ -75,4 +78,5 @@ module _ (n : ℕ) (P : ℕ → Type 0) (d : (i : ℕ) → Dec (P i)) where
   every past = alike (λ h i. below i n (h i) (past i), λ h i l. h i) all-below
 
   pub some-below : Dec (Below P n (λ i. i))
-  some-below = alike (any-some P n (λ i. i), λ w. any-of P n (λ i. i) (w .0) (w .1) (w .2)) (any d (tabulate n (λ i. i)))
+  some-below =
+      alike (any-some P n (λ i. i), λ w. any-of P n (λ i. i) (w .0) (w .1) (w .2)) (any d (tabulate n (λ i. i)))

@@ -8,7 +8,8 @@ use borrow.Author.Tests.{eqb-true, eqb-false, eq-eqb, ne-eqb}
 use lib.Dec.{eqb}
 use Rattle.operations.specs.Operations.{Kind, All}
 use Rattle.operations.specs.PairRules.{commutes}
-use Rattle.operations.specs.Log.{ObjectType, Commuting, PassesBefore}
+use Rattle.operations.specs.Log.{Commuting, PassesBefore}
+use Rattle.operations.specs.Laws.ObjectTypes.{ObjectType}
 use Rattle.operations.specs.Laws.Cases.{split}
 use Rattle.operations.specs.Laws.Objects.{object}
 use Rattle.store.specs.Store.{Logged, onObject}
@@ -26,7 +27,8 @@ module _ (reduce : ℕ → ℕ) (kind : Kind) (t : ℕ) where
   abbrev Free : Logged → List Logged → Type 0
   Free e l = (t ≡ e .entry .transaction → ⊥) → Any (Conflict t (e .entry .transaction) e) l → ⊥
 
-  passes : (o : ℕ) (e : Logged) → e .object ≡ o → (l : List Logged) → Free e l → All (PassesBefore X isT (e .entry)) (onObject o l)
+  passes : (o : ℕ) (e : Logged) → e .object ≡ o → (l : List Logged) → Free e l
+      → All (PassesBefore (X .commutes) isT (e .entry)) (onObject o l)
   passes o e q [] free = tt
   passes o e q (x ∷ l) free =
       let rest = passes o e q l (λ other p. free other (inr p)) in
@@ -34,14 +36,16 @@ module _ (reduce : ℕ → ℕ) (kind : Kind) (t : ℕ) where
       (λ (b : eqb (x .object) o ≡ true). rw b (head (eqb-true (x .object) o b), rest))
       (λ (b : eqb (x .object) o ≡ false). rw b rest)
     where
-      head : x .object ≡ o → PassesBefore X isT (e .entry) (x .entry)
+      head : x .object ≡ o → PassesBefore (X .commutes) isT (e .entry) (x .entry)
       head on own other =
-          split (commutes (x .entry .operation) (e .entry .operation)) (λ (c : commutes (x .entry .operation) (e .entry .operation) ≡ true). c)
+          split (commutes (x .entry .operation) (e .entry .operation))
+          (λ (c : commutes (x .entry .operation) (e .entry .operation) ≡ true). c)
           (λ (c : commutes (x .entry .operation) (e .entry .operation) ≡ false).
           absurd (free (λ (same : t ≡ e .entry .transaction). eqb-false (e .entry .transaction) t other (sym same))
           (inl (eqb-true (x .entry .transaction) t own, refl, on ∙ sym q, c))))
 
-  pub ready-commuting : (log : List Logged) → ((u : ℕ) → DependsOn log t u → ⊥) → (o : ℕ) → Commuting X isT (onObject o log)
+  pub ready-commuting : (log : List Logged) → ((u : ℕ) → DependsOn log t u → ⊥)
+      → (o : ℕ) → Commuting (X .commutes) isT (onObject o log)
   ready-commuting [] none o = tt
   ready-commuting (e ∷ l) none o =
       let rest = ready-commuting l (λ u d. none u (d .0, inr (d .1))) o in
@@ -51,39 +55,46 @@ module _ (reduce : ℕ → ℕ) (kind : Kind) (t : ℕ) where
       (λ (b : eqb (e .object) o ≡ false). rw b rest)
 
   module _ (u : ℕ) (other : t ≡ u → ⊥) where
-    meets : (e : Logged) (l : List Logged) → All (PassesBefore X isT (e .entry)) (onObject (e .object) l) → Any (Conflict t u e) l → ⊥
+    meets : (e : Logged) (l : List Logged) → All (PassesBefore (X .commutes) isT (e .entry)) (onObject (e .object) l)
+        → Any (Conflict t u e) l → ⊥
     meets e [] all p = p
     meets e (x ∷ l) all (inl (own, owner, on, c)) =
-        let here : All (PassesBefore X isT (e .entry)) (x .entry ∷ onObject (e .object) l) = rw (eq-eqb (x .object) (e .object) on) at all in
-        true≢false (sym (here .0 (eq-eqb (x .entry .transaction) t own) (ne-eqb (e .entry .transaction) t (λ q. other (sym q ∙ owner)))) ∙ c)
+        let here : All (PassesBefore (X .commutes) isT (e .entry)) (x .entry ∷ onObject (e .object) l) =
+        rw (eq-eqb (x .object) (e .object) on) at all in
+        true≢false (sym (here .0 (eq-eqb (x .entry .transaction) t own)
+        (ne-eqb (e .entry .transaction) t (λ q. other (sym q ∙ owner)))) ∙ c)
     meets e (x ∷ l) all (inr p) =
         split (eqb (x .object) (e .object))
         (λ (b : eqb (x .object) (e .object) ≡ true).
-        let here : All (PassesBefore X isT (e .entry)) (x .entry ∷ onObject (e .object) l) = rw b at all in
+        let here : All (PassesBefore (X .commutes) isT (e .entry)) (x .entry ∷ onObject (e .object) l) = rw b at all in
         meets e l (here .1) p)
         (λ (b : eqb (x .object) (e .object) ≡ false). meets e l (rw b at all) p)
 
-    follows-none : (log : List Logged) → ((o : ℕ) → Commuting X isT (onObject o log)) → Follows (Conflict t u) log → ⊥
+    follows-none : (log : List Logged) → ((o : ℕ) → Commuting (X .commutes) isT (onObject o log))
+        → Follows (Conflict t u) log → ⊥
     follows-none [] c p = p
     follows-none (e ∷ l) c (inl p) =
-        let here : Commuting X isT (e .entry ∷ onObject (e .object) l) = rw (eq-eqb (e .object) (e .object) refl) at (c (e .object)) in
+        let here : Commuting (X .commutes) isT (e .entry ∷ onObject (e .object) l) =
+        rw (eq-eqb (e .object) (e .object) refl) at (c (e .object)) in
         meets e l (here .0) p
     follows-none (e ∷ l) c (inr p) = follows-none l (λ o. later o) p
       where
-        later : (o : ℕ) → Commuting X isT (onObject o l)
+        later : (o : ℕ) → Commuting (X .commutes) isT (onObject o l)
         later o =
             split (eqb (e .object) o)
             (λ (b : eqb (e .object) o ≡ true).
-            let here : Commuting X isT (e .entry ∷ onObject o l) = rw b at (c o) in
+            let here : Commuting (X .commutes) isT (e .entry ∷ onObject o l) = rw b at (c o) in
             here .1)
             (λ (b : eqb (e .object) o ≡ false). rw b at (c o))
 
-  pub commuting-ready : (log : List Logged) → ((o : ℕ) → Commuting X isT (onObject o log)) → (u : ℕ) → DependsOn log t u → ⊥
+  pub commuting-ready : (log : List Logged) → ((o : ℕ) → Commuting (X .commutes) isT (onObject o log))
+      → (u : ℕ) → DependsOn log t u → ⊥
   commuting-ready log c u (other, p) = follows-none u other log c p
 
 -- What holds of all entries' transactions holds of one that is depended on.
 module _ (P : ℕ → Type 0) (a b : ℕ) where
-  follows-owner : (log : List Logged) → All (λ (l : Logged). P (l .entry .transaction)) log → Follows (Conflict a b) log → P b
+  follows-owner : (log : List Logged) → All (λ (l : Logged). P (l .entry .transaction)) log
+      → Follows (Conflict a b) log → P b
   follows-owner [] all p = absurd p
   follows-owner (e ∷ l) all (inl p) = subst P (any-some (Conflict a b e) l p .1 .1) (all .0)
   follows-owner (e ∷ l) all (inr p) = follows-owner l (all .1) p

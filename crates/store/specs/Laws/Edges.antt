@@ -15,7 +15,8 @@ use Rattle.store.specs.Laws.Any.{any-some, any-map, any-append}
 -- ---- Entries that leave
 
 module _ (t : ℕ) (P : Logged → Type 0) where
-  any-left : (log : List Logged) → Any P (without t log) → Any (λ (x : Logged). P x × (x .entry .transaction ≡ t → ⊥)) log
+  any-left : (log : List Logged) → Any P (without t log)
+      → Any (λ (x : Logged). P x × (x .entry .transaction ≡ t → ⊥)) log
   any-left [] p = p
   any-left (l ∷ log) p =
       split (eqb (l .entry .transaction) t)
@@ -24,7 +25,8 @@ module _ (t : ℕ) (P : Logged → Type 0) where
       let q : P l ⊎ Any P (without t log) = rw e at p in
       ⊎-elim (λ h. inl (h, eqb-false (l .entry .transaction) t e)) (λ h. inr (any-left log h)) q)
 
-  any-stays : (log : List Logged) → Any (λ (x : Logged). P x × (x .entry .transaction ≡ t → ⊥)) log → Any P (without t log)
+  any-stays : (log : List Logged)
+      → Any (λ (x : Logged). P x × (x .entry .transaction ≡ t → ⊥)) log → Any P (without t log)
   any-stays [] p = p
   any-stays (l ∷ log) p =
       split (eqb (l .entry .transaction) t)
@@ -36,7 +38,8 @@ module _ (t a b : ℕ) where
   abbrev Kept : Logged → Logged → Type 0
   Kept e x = Conflict a b e x × (x .entry .transaction ≡ t → ⊥)
 
-  follows-left : (log : List Logged) → Follows (Conflict a b) (without t log) → Follows (Conflict a b) log × (a ≡ t → ⊥) × (b ≡ t → ⊥)
+  follows-left : (log : List Logged) → Follows (Conflict a b) (without t log)
+      → Follows (Conflict a b) log × (a ≡ t → ⊥) × (b ≡ t → ⊥)
   follows-left [] p = absurd p
   follows-left (l ∷ log) p =
       split (eqb (l .entry .transaction) t)
@@ -54,7 +57,8 @@ module _ (t a b : ℕ) where
       (λ (h : Follows (Conflict a b) (without t log)). let r = follows-left log h in (inr (r .0), r .1, r .2))
       q)
 
-  follows-stays : (a ≡ t → ⊥) → (b ≡ t → ⊥) → (log : List Logged) → Follows (Conflict a b) log → Follows (Conflict a b) (without t log)
+  follows-stays : (a ≡ t → ⊥) → (b ≡ t → ⊥) → (log : List Logged) → Follows (Conflict a b) log
+      → Follows (Conflict a b) (without t log)
   follows-stays m n [] p = p
   follows-stays m n (l ∷ log) p =
       split (eqb (l .entry .transaction) t)
@@ -72,7 +76,8 @@ module _ (t a b : ℕ) where
       (λ (h : Follows (Conflict a b) log). inr (follows-stays m n log h)) p))
 
   -- Among those left, dependencies stay as they were.
-  pub depends-without : (log : List Logged) → DependsOn (without t log) a b ↔ (DependsOn log a b × (a ≡ t → ⊥) × (b ≡ t → ⊥))
+  pub depends-without : (log : List Logged) → DependsOn (without t log) a b
+      ↔ (DependsOn log a b × (a ≡ t → ⊥) × (b ≡ t → ⊥))
   depends-without log = (
     λ d. let r = follows-left log (d .1) in ((d .0, r .0), r .1, r .2),
     λ d. (d .0 .0, follows-stays (d .1) (d .2) log (d .0 .1)),
@@ -87,7 +92,8 @@ module _ (x : Logged) where
     λ p. any-append P log (x ∷ []) .1 (⊎-elim inl (λ q. inr (inl q)) p),
   )
 
-  follows-last : (R : Logged → Logged → Type 0) (log : List Logged) → Follows R (log ++ (x ∷ [])) ↔ (Follows R log ⊎ Any (λ (e : Logged). R e x) log)
+  follows-last : (R : Logged → Logged → Type 0) (log : List Logged) → Follows R (log ++ (x ∷ []))
+      ↔ (Follows R log ⊎ Any (λ (e : Logged). R e x) log)
   follows-last R [] = (λ p. ⊎-elim inl inl p, ⊎-elim inr inr)
   follows-last R (l ∷ log) = (
     ⊎-elim (λ p. ⊎-elim (λ q. inl (inl q)) (λ q. inr (inl q)) (any-last (R l) log .0 p))
@@ -101,5 +107,6 @@ pub depends-appended : (a b : ℕ) (x : Logged) (log : List Logged)
     → DependsOn (log ++ (x ∷ [])) a b ↔ (DependsOn log a b ⊎ ((a ≡ b → ⊥) × Any (λ (e : Logged). Conflict a b e x) log))
 depends-appended a b x log = (
   λ d. ⊎-elim (λ p. inl (d .0, p)) (λ p. inr (d .0, p)) (follows-last x (Conflict a b) log .0 (d .1)),
-  ⊎-elim (λ d. (d .0, follows-last x (Conflict a b) log .1 (inl (d .1)))) (λ d. (d .0, follows-last x (Conflict a b) log .1 (inr (d .1)))),
+  ⊎-elim (λ d. (d .0, follows-last x (Conflict a b) log .1 (inl (d .1))))
+      (λ d. (d .0, follows-last x (Conflict a b) log .1 (inr (d .1)))),
 )

@@ -6,8 +6,10 @@ use native.Mathlib.Nat.{not-suc-le-zero}
 use native.Mathlib.Omega.{arith}
 use lib.ListN.{length}
 use Rattle.operations.specs.Operations.{Kind, Stack, Set, Table, WellFormed, All}
+use Rattle.store.specs.Layout.{BookLong}
 use Rattle.store.specs.Store.{pseudoCommitted, absent, Object, Logged, Store, statusOf, objectOf, onObject}
-use Rattle.store.specs.Layout.{Format, word, tabulate, readStatus, entryAt, objectStart, rowAt, rowsAt, ObjectPacked, additions, decode, Packed, base}
+use Rattle.store.specs.Layout.{Format, word, tabulate, readStatus, entryAt, objectStart, rowAt, rowsAt}
+use Rattle.store.specs.Layout.{ObjectPacked, additions, decode, Packed, base}
 use Rattle.store.specs.Soundness.{Room, SoundStore, Sound}
 use Rattle.store.specs.Laws.Lists.{tabulate-zero}
 use Rattle.store.specs.Laws.Reading.{status-read, status-past, object-read, object-past}
@@ -51,20 +53,22 @@ module _ (s : Store) (empty : Empty s) where
       }
 
   pub base-room : Room base s
-  base-room o = omega (arith, ap length (empty .rows o), ap (λ (l : List Logged). additions (onObject o l)) (empty .log))
+  base-room o =
+      omega (arith, ap length (empty .rows o), ap (λ (l : List Logged). additions (onObject o l)) (empty .log))
 
 module _ (w : List ℕ) (zeros : (i : ℕ) → word w i ≡ 0) where
   zeros-empty : (format : Format) → ((o : ℕ) → o < 16 → format .objectAt w o .rows ≡ []) → Empty (decode format w)
   zeros-empty format absence =
       record {
         log = ap (λ (n : ℕ). tabulate n (entryAt w)) (zeros 0) ∙ tabulate-zero (entryAt w);
-        statuses = λ t. below t 64 (λ l. status-read format w t l ∙ ap readStatus (zeros (1 + t))) (status-past format w t);
+        statuses = λ t. below t 64 (λ l. status-read format w t l ∙ ap readStatus (zeros (1 + t)))
+            (status-past format w t);
         rows = λ o.
             below o 16 (λ l. ap (λ (x : Object). x .rows) (object-read format w o l) ∙ absence o l)
             (λ l. ap (λ (x : Object). x .rows) (object-past format w o l));
       }
 
-  zeros-packed : (format : Format) → length w ≡ 3_937 → format .ObjectsPacked w → Packed format w
+  zeros-packed : (format : Format) → BookLong w → format .ObjectsPacked w → Packed format w
   zeros-packed format size objects =
       record {
         words = size;
@@ -90,7 +94,10 @@ module _ (w : List ℕ) (zeros : (i : ℕ) → word w i ≡ 0) where
         unused = λ i l m. zeros (objectStart o + 2 + i);
       }
 
-  pub base-zeros-sound : length w ≡ 3_937 → Sound base w
+  pub base-zeros-sound : BookLong w → Sound base w
   base-zeros-sound size =
       let empty : Empty (decode base w) = zeros-empty base (λ o l. rows-zero o) in
-      record { packed = zeros-packed base size (λ o l. object-packed o); store = empty-sound (decode base w) empty base (base-room (decode base w) empty) }
+      record {
+        packed = zeros-packed base size (λ o l. object-packed o);
+        store = empty-sound (decode base w) empty base (base-room (decode base w) empty);
+      }

@@ -15,7 +15,8 @@ use Rattle.store.specs.Laws.Deciding.{alike, either, all-three, all-four
 
 abbrev conflict : (a b : ℕ) (e x : Logged) → Dec (Conflict a b e x)
 conflict a b e x =
-    all-four (ℕ-discrete (x .entry .transaction) a) (ℕ-discrete (e .entry .transaction) b) (ℕ-discrete (x .object) (e .object))
+    all-four (ℕ-discrete (x .entry .transaction) a) (ℕ-discrete (e .entry .transaction) b)
+    (ℕ-discrete (x .object) (e .object))
     (Bool-discrete (commutes (x .entry .operation) (e .entry .operation)) false)
 
 module _ (log : List Logged) where
@@ -23,12 +24,14 @@ module _ (log : List Logged) where
   depends-on a b = Dec·and (Dec·not (ℕ-discrete a b)) (follows (conflict a b) log)
 
   -- Some transaction that a depends on is such: it owns an entry.
-  abbrev someone : (a : ℕ) {P : ℕ → Type 0} → ((c : ℕ) → P c → DependsOn log a c) → ((c : ℕ) → Dec (P c)) → Dec ((c : ℕ) × P c)
+  abbrev someone : (a : ℕ) {P : ℕ → Type 0} → ((c : ℕ) → P c → DependsOn log a c)
+      → ((c : ℕ) → Dec (P c)) → Dec ((c : ℕ) × P c)
   someone a {P} depends d =
       let Owner : Logged → Type 0 = λ l. P (l .entry .transaction) in
       alike (
         λ p. let w = any-some Owner log p in (w .0 .entry .transaction, w .1),
-        λ w. depended-on (λ (c : ℕ). P c → Any Owner log) a (w .0) log (each-any Owner log) (depends (w .0) (w .1)) (w .1),
+        λ w. depended-on (λ (c : ℕ). P c → Any Owner log) a (w .0) log (each-any Owner log)
+            (depends (w .0) (w .1)) (w .1),
       ) (any (λ (l : Logged). d (l .entry .transaction)) log)
 
   abbrev depends : (t : ℕ) → Dec ((u : ℕ) × DependsOn log t u)

@@ -47,7 +47,8 @@ module _ {A : Type 0} where
   unfolding tabulate
   tabulate-same zero f g e = refl
   tabulate-same (suc n) f g e =
-      ap₂ (λ (x : A) (l : List A). x ∷ l) (e 0 (zero-lt-suc n)) (tabulate-same n (λ i. f (suc i)) (λ i. g (suc i)) (λ i l. e (suc i) (omega arith)))
+      ap₂ (λ (x : A) (l : List A). x ∷ l) (e 0 (zero-lt-suc n))
+      (tabulate-same n (λ i. f (suc i)) (λ i. g (suc i)) (λ i l. e (suc i) (omega arith)))
 
   pub tabulate-snoc : (n : ℕ) (f : ℕ → A) → tabulate (suc n) f ≡ tabulate n f ++ (f n ∷ [])
   unfolding tabulate
@@ -106,7 +107,8 @@ module _ {A : Type 0} where
   follows-some R (suc n) f (inl p) = follows-first R n f (any-some (R (f 0)) n (λ i. f (suc i)) p)
   follows-some R (suc n) f (inr p) = follows-suc R n f (follows-some R n (λ i. f (suc i)) p)
 
-  pub follows-of : (R : A → A → Type 0) (n : ℕ) (f : ℕ → A) (j i : ℕ) → j < i → i < n → R (f j) (f i) → Follows R (tabulate n f)
+  pub follows-of : (R : A → A → Type 0) (n : ℕ) (f : ℕ → A) (j i : ℕ) → j < i → i < n → R (f j) (f i)
+      → Follows R (tabulate n f)
   unfolding tabulate
   follows-of R zero f j i l m p = absurd (not-suc-le-zero m)
   follows-of R (suc n) f zero zero l m p = absurd (omega arith)

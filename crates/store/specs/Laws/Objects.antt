@@ -7,11 +7,14 @@ use native.Mathlib.Omega.{arith}
 use lib.ListN.{length, getD}
 use Rattle.operations.specs.Operations.{Kind, Stack, Set, Table, Row, row, All}
 use Rattle.operations.specs.Laws.Cases.{all-map}
+use Rattle.operations.specs.Laws.Numbers.{kinds}
 use Rattle.store.specs.Store.{Object, noObject}
-use Rattle.store.specs.Layout.{word, tabulate, joined, padded, kindWord, rowWords, readKind, objectStart, rowAt, rowsAt, readObject, objectWords, ObjectPacked, ObjectFits, base}
+use Rattle.store.specs.Layout.{word, tabulate, joined, padded, kindWord, rowWords, readKind, objectStart, rowAt}
+use Rattle.store.specs.Layout.{rowsAt, readObject, objectWords, ObjectPacked, ObjectFits, base}
 use Rattle.store.specs.Laws.Lists.{tabulate-zero, length-tabulate, all-of}
-use Rattle.store.specs.Laws.Words.{each, Rows, all-any, all-getD, tabulate-list, padded-length, padded-past, padded-row, joined-length, joined-word, joined-same, padded-same}
-use Rattle.store.specs.Laws.Encoding.{Holds, ObjectsLaid}
+use Rattle.store.specs.Laws.Words.{each, Rows, all-any, all-getD, tabulate-list, padded-length, padded-past}
+use Rattle.store.specs.Laws.Words.{padded-row, joined-length, joined-word, joined-same, padded-same}
+use Rattle.store.specs.Laws.Encoding.{LaidOut, ObjectsLaid}
 
 rows-rows : (rs : List Row) → Rows rowWords 2 rs
 rows-rows rs = all-any (λ (r : Row). length (rowWords r) ≡ 2) (λ r. refl) rs
@@ -20,7 +23,8 @@ pub rows-length : (rs : List Row) → length (joined rowWords rs) ≡ 2 * length
 rows-length rs = joined-length rowWords 2 rs (rows-rows rs)
 
 object-length : (x : Object) → ObjectFits x → length (objectWords x) ≡ 130
-object-length x fits = omega (arith, padded-length 128 (joined rowWords (x .rows)) (omega (arith, rows-length (x .rows), fits .rows)))
+object-length x fits =
+    omega (arith, padded-length 128 (joined rowWords (x .rows)) (omega (arith, rows-length (x .rows), fits .rows)))
 
 -- ---- Read and written again
 
@@ -38,13 +42,15 @@ kind-named (suc (suc (suc (suc k)))) l n = absurd (omega arith)
 module _ (w : List ℕ) (o : ℕ) (packed : ObjectPacked w o) where
   row-written : (i j : ℕ) → j < 2 → word (rowWords (rowAt w o i)) j ≡ word w (objectStart o + 2 + (2 * i + j))
   row-written i =
-      each (λ (j : ℕ). word (rowWords (rowAt w o i)) j ≡ word w (objectStart o + 2 + (2 * i + j))) 2 (ap (word w) (omega arith), (ap (word w) (omega arith), tt))
+      each (λ (j : ℕ). word (rowWords (rowAt w o i)) j ≡ word w (objectStart o + 2 + (2 * i + j))) 2
+      (ap (word w) (omega arith), (ap (word w) (omega arith), tt))
 
   object-written : (j : ℕ) → j < 130 → word (objectWords (readObject w o)) j ≡ word w (65 + (130 * o + j))
   object-written zero l = kind-written (word w (objectStart o)) (packed .kind) ∙ ap (word w) (omega arith)
   object-written (suc zero) l = length-tabulate (word w (objectStart o + 1)) (rowAt w o) ∙ ap (word w) (omega arith)
   object-written (suc (suc j)) l =
-      padded-same rowWords 2 128 (word w (objectStart o + 1)) (rowAt w o) (λ (p : ℕ). word w (objectStart o + 2 + p)) (λ i m. refl)
+      padded-same rowWords 2 128 (word w (objectStart o + 1)) (rowAt w o)
+      (λ (p : ℕ). word w (objectStart o + 2 + p)) (λ i m. refl)
       (λ i j m. row-written i j) (packed .unused) j (omega arith)
       ∙ ap (word w) (omega arith)
 
@@ -53,7 +59,8 @@ module _ (w : List ℕ) (o : ℕ) (packed : ObjectPacked w o) where
       record {
         rows = omega (arith, length-tabulate (word w (objectStart o + 1)) (rowAt w o), packed .rows);
         none = λ (e : readKind (word w (objectStart o)) ≡ none).
-            let no-kind : word w (objectStart o) ≡ 0 = sym (kind-written (word w (objectStart o)) (packed .kind)) ∙ ap kindWord e in
+            let no-kind : word w (objectStart o) ≡ 0 =
+            sym (kind-written (word w (objectStart o)) (packed .kind)) ∙ ap kindWord e in
             ap (λ (n : ℕ). tabulate n (rowAt w o)) (packed .none no-kind) ∙ tabulate-zero (rowAt w o);
       }
 
@@ -67,11 +74,10 @@ kind-read (some Table) = refl
 
 kind-below : (kind : Option Kind) → kindWord kind ≤ 3
 kind-below none = omega arith
-kind-below (some Stack) = omega arith
-kind-below (some Set) = omega arith
-kind-below (some Table) = omega arith
+kind-below (some kind) = kinds kind .1
 
-module _ (w : List ℕ) (o : ℕ) (x : Object) (fits : ObjectFits x) (holds : (j : ℕ) → j < 130 → word w (65 + (130 * o + j)) ≡ word (objectWords x) j) where
+module _ (w : List ℕ) (o : ℕ) (x : Object) (fits : ObjectFits x)
+    (holds : (j : ℕ) → j < 130 → word w (65 + (130 * o + j)) ≡ word (objectWords x) j) where
   kind-word : word w (objectStart o) ≡ kindWord (x .kind)
   kind-word = ap (word w) (omega arith) ∙ holds 0 (omega arith)
 
@@ -85,7 +91,8 @@ module _ (w : List ℕ) (o : ℕ) (x : Object) (fits : ObjectFits x) (holds : (j
 
   row-read : (i : ℕ) → i < length (x .rows) → rowAt w o i ≡ getD (x .rows) i (row 0 0)
   row-read i l =
-      let at : (j : ℕ) → j < 2 → word w (objectStart o + 2 + (2 * i + j)) ≡ word (rowWords (getD (x .rows) i (row 0 0))) j =
+      let at : (j : ℕ) → j < 2
+      → word w (objectStart o + 2 + (2 * i + j)) ≡ word (rowWords (getD (x .rows) i (row 0 0))) j =
       λ j m. rows-word (2 * i + j) (omega (arith, fits .rows))
       ∙ padded-row rowWords 2 128 (x .rows) (rows-rows (x .rows)) (row 0 0) i j l m in
       ap₂ row (ap (word w) (omega arith) ∙ at 0 (omega arith)) (ap (word w) (omega arith) ∙ at 1 (omega arith))
@@ -94,7 +101,8 @@ module _ (w : List ℕ) (o : ℕ) (x : Object) (fits : ObjectFits x) (holds : (j
   object-read =
       let kind : readKind (word w (objectStart o)) ≡ x .kind = ap readKind kind-word ∙ kind-read (x .kind) in
       let rows : rowsAt w o ≡ x .rows =
-      ap (λ (n : ℕ). tabulate n (rowAt w o)) count-word ∙ tabulate-list (x .rows) (row 0 0) (length (x .rows)) (rowAt w o) refl row-read in
+      ap (λ (n : ℕ). tabulate n (rowAt w o)) count-word
+      ∙ tabulate-list (x .rows) (row 0 0) (length (x .rows)) (rowAt w o) refl row-read in
       λ i. record { kind = kind i; rows = rows i }
 
   object-packed : ObjectPacked w o
@@ -105,7 +113,8 @@ module _ (w : List ℕ) (o : ℕ) (x : Object) (fits : ObjectFits x) (holds : (j
         none = λ (e : word w (objectStart o) ≡ 0).
             let kind : x .kind ≡ none = sym (kind-read (x .kind)) ∙ ap readKind (sym kind-word ∙ e) in
             count-word ∙ ap length (fits .none kind);
-        unused = λ p l m. rows-word p m ∙ padded-past 128 (joined rowWords (x .rows)) p (omega (arith, rows-length (x .rows), count-word));
+        unused = λ p l m. rows-word p m
+            ∙ padded-past 128 (joined rowWords (x .rows)) p (omega (arith, rows-length (x .rows), count-word));
       }
 
 -- ---- The base's objects
@@ -113,12 +122,14 @@ module _ (w : List ℕ) (o : ℕ) (x : Object) (fits : ObjectFits x) (holds : (j
 pub objects-rows : (xs : List Object) → All ObjectFits xs → Rows objectWords 130 xs
 objects-rows xs fit = all-map {P = ObjectFits} {Q = λ (x : Object). length (objectWords x) ≡ 130} object-length xs fit
 
-module _ (w : List ℕ) (xs : List Object) (size : length xs ≡ 16) (fit : All ObjectFits xs) (holds : Holds base w xs) (o : ℕ) (l : o < 16) where
+module _ (w : List ℕ) (xs : List Object) (size : length xs ≡ 16) (fit : All ObjectFits xs) (holds : LaidOut base w xs)
+    (o : ℕ) (l : o < 16) where
   within : o < length xs
   within = rw size l
 
   here : (j : ℕ) → j < 130 → word w (65 + (130 * o + j)) ≡ word (objectWords (getD xs o noObject)) j
-  here j m = holds (130 * o + j) (omega arith) ∙ joined-word objectWords 130 xs (objects-rows xs fit) noObject o j within m
+  here j m =
+      holds (130 * o + j) (omega arith) ∙ joined-word objectWords 130 xs (objects-rows xs fit) noObject o j within m
 
   objects-read : readObject w o ≡ getD xs o noObject
   objects-read = object-read w o (getD xs o noObject) (all-getD ObjectFits xs fit o noObject within) here
@@ -135,5 +146,6 @@ base-laid =
       fit = λ w packed. all-of ObjectFits 16 (readObject w) (λ o l. object-fits w o (packed o l));
       written = λ w packed p l.
           sym (joined-same objectWords 130 16 (readObject w) (λ (q : ℕ). word w (65 + q))
-          (λ o m. object-length (readObject w o) (object-fits w o (packed o m))) (λ o j m. object-written w o (packed o m) j) p l);
+          (λ o m. object-length (readObject w o) (object-fits w o (packed o m)))
+          (λ o j m. object-written w o (packed o m) j) p l);
     }

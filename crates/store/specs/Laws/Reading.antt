@@ -17,7 +17,8 @@ module _ (format : Format) (w : List ℕ) where
   pub status-read : (t : ℕ) → t < 64 → statusOf (decode format w) t ≡ statusAt w t
   status-read t l = getD-tabulate 64 (statusAt w) t absent l
 
-  pub status-by-word : (t status : ℕ) → t < 64 → status ≡ word w (1 + t) → statusOf (decode format w) t ≡ readStatus status
+  pub status-by-word : (t status : ℕ) → t < 64 → status ≡ word w (1 + t)
+      → statusOf (decode format w) t ≡ readStatus status
   status-by-word t status l e = status-read t l ∙ ap readStatus (sym e)
 
   pub status-past : (t : ℕ) → 64 ≤ t → statusOf (decode format w) t ≡ absent
@@ -38,7 +39,8 @@ module _ (format : Format) (w : List ℕ) where
 
   -- The words of an entry name its operation.
   pub entry-named : (i : ℕ) (operation : Operation) → Packed format w → i < word w 0
-      → (operation .number ≡ word w (entryStart i + 2)) × (operation .key ≡ word w (entryStart i + 3)) × (operation .value ≡ word w (entryStart i + 4))
+      → (operation .number ≡ word w (entryStart i + 2)) × (operation .key ≡ word w (entryStart i + 3))
+      × (operation .value ≡ word w (entryStart i + 4))
       → operationOf operation ≡ some (operationAt w i)
   entry-named i operation p l (number, key, value) =
       let stored = p .log .asStored i l in

@@ -14,7 +14,9 @@ use Rattle.store.specs.Laws.Objects.{rows-length}
 
 module _ (w : List ℕ) (o : ℕ) (l : o < 16) where
   pub rows-counted : length (objectOf (decode base w) o .rows) ≡ word w (objectStart o + 1)
-  rows-counted = ap (λ (x : Object). length (x .rows)) (object-read base w o l) ∙ length-tabulate (word w (objectStart o + 1)) (rowAt w o)
+  rows-counted =
+      ap (λ (x : Object). length (x .rows)) (object-read base w o l)
+      ∙ length-tabulate (word w (objectStart o + 1)) (rowAt w o)
 
   module _ (packed : Packed base w) where
     pub rows-few : word w (objectStart o + 1) ≤ 64
@@ -25,17 +27,21 @@ module _ (w : List ℕ) (o : ℕ) (l : o < 16) where
 
     -- Two words a row, from the third word of the object on.
     pub rows-part : (n : ℕ) → n ≡ word w (objectStart o + 1)
-        → take (objectStart o + 2 + 2 * n - (objectStart o + 2)) (drop (objectStart o + 2) w) ≡ joined rowWords (objectOf (decode base w) o .rows)
+        → take (objectStart o + 2 + 2 * n - (objectStart o + 2)) (drop (objectStart o + 2) w)
+        ≡ joined rowWords (objectOf (decode base w) o .rows)
     rows-part n e =
         let m : ℕ = objectStart o + 2 + 2 * n - (objectStart o + 2) in
         let part : List ℕ = take m (drop (objectStart o + 2) w) in
         let size : length part ≡ 2 * count =
-        length-take-le m (drop (objectStart o + 2) w) (omega (arith, length-drop (objectStart o + 2) w, packed .words, rows-few)) ∙ omega arith in
-        let row : (i j : ℕ) → i < count → j < 2 → word (rowWords (rowAt w o i)) j ≡ word w (objectStart o + 2 + (2 * i + j)) =
+        length-take-le m (drop (objectStart o + 2) w)
+        (omega (arith, length-drop (objectStart o + 2) w, packed .words, rows-few)) ∙ omega arith in
+        let row : (i j : ℕ) → i < count → j < 2
+        → word (rowWords (rowAt w o i)) j ≡ word w (objectStart o + 2 + (2 * i + j)) =
         λ i j k. each (λ (j : ℕ). word (rowWords (rowAt w o i)) j ≡ word w (objectStart o + 2 + (2 * i + j))) 2
         (ap (word w) (omega arith), (ap (word w) (omega arith), tt)) j in
         ext-getD 0 part (joined rowWords (rowsAt w o))
         (size ∙ ap (λ (k : ℕ). 2 * k) (sym (length-tabulate count (rowAt w o))) ∙ sym (rows-length (rowsAt w o)))
         (λ p l. getD-take m (drop (objectStart o + 2) w) p 0 (omega (arith, size)) ∙ getD-drop (objectStart o + 2) w p 0
-        ∙ sym (joined-same rowWords 2 count (rowAt w o) (λ (q : ℕ). word w (objectStart o + 2 + q)) (λ i k. refl) row p (omega (arith, size))))
+        ∙ sym (joined-same rowWords 2 count (rowAt w o) (λ (q : ℕ). word w (objectStart o + 2 + q))
+        (λ i k. refl) row p (omega (arith, size))))
         ∙ ap (λ (x : Object). joined rowWords (x .rows)) (sym (object-read base w o l))

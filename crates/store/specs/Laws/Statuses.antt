@@ -6,7 +6,8 @@ use native.Mathlib.Nat.{lt-of-not-le}
 use native.Mathlib.Omega.{arith}
 use lib.ListN.{length, List·getD-eq-default}
 use Rattle.operations.specs.Operations.{Kind}
-use Rattle.store.specs.Store.{Status, absent, active, pseudoCommitted, Object, noObject, Store, statusOf, objectOf, Live, Active, PseudoCommitted}
+use Rattle.store.specs.Store.{Status, absent, active, pseudoCommitted, Object, noObject, Store, statusOf}
+use Rattle.store.specs.Store.{objectOf, Live, Active, PseudoCommitted}
 use Rattle.store.specs.Layout.{statusWord}
 
 pub absent-inactive : absent ≡ active → ⊥
@@ -22,7 +23,8 @@ pub same-rank : (a b : ℕ) → pseudoCommitted a ≡ pseudoCommitted b → a �
 same-rank a b e = omega (arith, ap statusWord e)
 
 -- Neither absent nor active.
-pub live-ranked : (status : Status) → (status ≡ absent → ⊥) → (status ≡ active → ⊥) → (rank : ℕ) × (status ≡ pseudoCommitted rank)
+pub live-ranked : (status : Status) → (status ≡ absent → ⊥) → (status ≡ active → ⊥)
+    → (rank : ℕ) × (status ≡ pseudoCommitted rank)
 live-ranked absent live inactive = absurd (live refl)
 live-ranked active live inactive = absurd (inactive refl)
 live-ranked (pseudoCommitted rank) live inactive = (rank, refl)
@@ -39,7 +41,8 @@ module _ (s : Store) where
 
   -- Past the end of the lists transactions are absent, and objects have no kind.
   pub live-within : (t : ℕ) → Live s t → t < length (s .statuses)
-  live-within t live = lt-of-not-le (λ (past : length (s .statuses) ≤ t). live (List·getD-eq-default (s .statuses) absent past))
+  live-within t live =
+      lt-of-not-le (λ (past : length (s .statuses) ≤ t). live (List·getD-eq-default (s .statuses) absent past))
 
   pub pseudo-committed-within : (t : ℕ) → PseudoCommitted s t → t < length (s .statuses)
   pseudo-committed-within t p = live-within t (pseudo-committed-live t p)
@@ -49,4 +52,5 @@ module _ (s : Store) where
 
   pub kind-within : (o : ℕ) (kind : Kind) → objectOf s o .kind ≡ some kind → o < length (s .objects)
   kind-within o kind e =
-      lt-of-not-le (λ (past : length (s .objects) ≤ o). Option·none-ne-some kind (sym (ap (λ (x : Object). x .kind) (object-past o past)) ∙ e))
+      lt-of-not-le (λ (past : length (s .objects) ≤ o). Option·none-ne-some kind
+      (sym (ap (λ (x : Object). x .kind) (object-past o past)) ∙ e))

@@ -4,7 +4,7 @@ use mathlib.Core.Path.{_≡_, sym, subst, _∙_}
 use mathlib.Core.Logic.{_⊎_, inl, inr, ⊎-elim}
 use native.Mathlib.Nat.{not-suc-le-zero, le-of-suc-le-suc, eq-or-lt-of-le, le-refl}
 use Rattle.operations.specs.Laws.Cases.{same}
-use Rattle.store.specs.Dependency.{Way, Path}
+use Rattle.store.specs.Dependency.{Way, Leads}
 
 -- ---- At most n numbers are such
 
@@ -35,7 +35,8 @@ apart P c d x (inl p, other) = inl (p, other)
 apart P c d x (inr f, other) = inr f
 
 -- What is taken out is d or another.
-taken : (n : ℕ) (P : ℕ → Type 0) (d : ℕ) → AtMost n P → ((c : ℕ) → P c → AtMost n (And d (Except c P))) → (c : ℕ) → And d P c → AtMost n (Except c (And d P))
+taken : (n : ℕ) (P : ℕ → Type 0) (d : ℕ) → AtMost n P → ((c : ℕ) → P c → AtMost n (And d (Except c P)))
+    → (c : ℕ) → And d P c → AtMost n (Except c (And d P))
 taken n P d most others c (inl p) = fewer n (Except c (And d P)) (And d (Except c P)) (apart P c d) (others c p)
 taken n P d most others c (inr e) = fewer n (Except c (And d P)) P (old P c d e) most
 
@@ -58,7 +59,8 @@ module _ (Edge Edge′ : ℕ → ℕ → Type 0) (Through Through′ : ℕ → T
   way-monotone f g zero m l a b w = absurd w
   way-monotone f g (suc n) zero l a b w = absurd (not-suc-le-zero l)
   way-monotone f g (suc n) (suc m) l a b (inl e) = inl (f a b e)
-  way-monotone f g (suc n) (suc m) l a b (inr (c, t, e, w)) = inr (c, g c t, f a c e, way-monotone f g n m (le-of-suc-le-suc l) c b w)
+  way-monotone f g (suc n) (suc m) l a b (inr (c, t, e, w)) =
+      inr (c, g c t, f a c e, way-monotone f g n m (le-of-suc-le-suc l) c b w)
 
 module _ (Edge : ℕ → ℕ → Type 0) where
   pub widened : (P Q : ℕ → Type 0) → ((c : ℕ) → P c → Q c) → (n a b : ℕ) → Way Edge P n a b → Way Edge Q n a b
@@ -71,7 +73,8 @@ module _ (Edge : ℕ → ℕ → Type 0) where
   onward P (suc n) a b c (inr (d, q, f, w)) p e = inr (d, q, f, onward P n d b c w p e)
 
   -- Up to the first arrival the end is not passed through.
-  pub first-arrival : (P Q : ℕ → Type 0) (b : ℕ) → ((c : ℕ) → P c → (c ≡ b → ⊥) → Q c) → (n a : ℕ) → Way Edge P n a b → Way Edge Q n a b
+  pub first-arrival : (P Q : ℕ → Type 0) (b : ℕ) → ((c : ℕ) → P c → (c ≡ b → ⊥) → Q c)
+      → (n a : ℕ) → Way Edge P n a b → Way Edge Q n a b
   first-arrival P Q b others zero a w = absurd w
   first-arrival P Q b others (suc n) a (inl e) = inl e
   first-arrival P Q b others (suc n) a (inr (c, p, e, w)) =
@@ -79,59 +82,74 @@ module _ (Edge : ℕ → ℕ → Type 0) where
       (λ (other : c ≡ b → ⊥). inr (c, others c p other, e, first-arrival P Q b others n c w))
 
   -- A way leaves out c, or does so from its last visit there.
-  last-visit : (P : ℕ → Type 0) (c n a b : ℕ) → Way Edge P n a b → Path Edge (Except c P) a b ⊎ Path Edge (Except c P) c b
+  last-visit : (P : ℕ → Type 0) (c n a b : ℕ) → Way Edge P n a b
+      → Leads Edge (Except c P) a b ⊎ Leads Edge (Except c P) c b
   last-visit P c zero a b w = absurd w
   last-visit P c (suc n) a b (inl e) = inl (1, inl e)
   last-visit P c (suc n) a b (inr (d, p, e, w)) =
       ⊎-elim
-      (λ (v : Path Edge (Except c P) d b).
-      same d c (λ (q : d ≡ c). inr (subst (λ (x : ℕ). Path Edge (Except c P) x b) q v))
+      (λ (v : Leads Edge (Except c P) d b).
+      same d c (λ (q : d ≡ c). inr (subst (λ (x : ℕ). Leads Edge (Except c P) x b) q v))
       (λ (other : d ≡ c → ⊥). inl (suc (v .0), inr (d, (p, other), e, v .1))))
-      (λ (v : Path Edge (Except c P) c b). inr v)
+      (λ (v : Leads Edge (Except c P) c b). inr v)
       (last-visit P c n d b w)
 
   -- The first step is the last one, or is to a node that the rest leaves out.
-  first-step : (P : ℕ → Type 0) (n a b : ℕ) → Way Edge P n a b → Edge a b ⊎ ((c : ℕ) × P c × Edge a c × Path Edge (Except c P) c b)
+  first-step : (P : ℕ → Type 0) (n a b : ℕ) → Way Edge P n a b
+      → Edge a b ⊎ ((c : ℕ) × P c × Edge a c × Leads Edge (Except c P) c b)
   first-step P zero a b w = absurd w
   first-step P (suc n) a b (inl e) = inl e
   first-step P (suc n) a b (inr (c, p, e, w)) = inr (c, p, e, ⊎-elim (λ v. v) (λ v. v) (last-visit P c n c b w))
 
   -- Through at most n nodes in at most n + 1 steps.
-  short : (n : ℕ) (P : ℕ → Type 0) → AtMost n P → (a b : ℕ) → Path Edge P a b → Way Edge P (suc n) a b
+  short : (n : ℕ) (P : ℕ → Type 0) → AtMost n P → (a b : ℕ) → Leads Edge P a b → Way Edge P (suc n) a b
   short zero P most a b w = ⊎-elim inl (λ v. absurd (most (v .0) (v .1))) (first-step P (w .0) a b (w .1))
   short (suc n) P most a b w =
       ⊎-elim inl
-      (λ (v : (c : ℕ) × P c × Edge a c × Path Edge (Except c P) c b).
+      (λ (v : (c : ℕ) × P c × Edge a c × Leads Edge (Except c P) c b).
       let c = v .0 in
-      inr (c, v .1, v .2, widened (Except c P) P (λ (x : ℕ) (q : Except c P x). q .0) (suc n) c b (short n (Except c P) (most c (v .1)) c b (v .3))))
+      inr (
+        c,
+        v .1,
+        v .2,
+        widened (Except c P) P (λ (x : ℕ) (q : Except c P x). q .0) (suc n) c b
+            (short n (Except c P) (most c (v .1)) c b (v .3)),
+      ))
       (first-step P (w .0) a b (w .1))
 
   -- Where each such node leads to such a node, and none to itself, there is none: those that one leads to are fewer.
-  endless : (n : ℕ) (P : ℕ → Type 0) → AtMost n P → ((c : ℕ) → P c → (d : ℕ) × P d × Edge c d) → ((c : ℕ) → P c → Path Edge P c c → ⊥)
+  endless : (n : ℕ) (P : ℕ → Type 0) → AtMost n P → ((c : ℕ) → P c → (d : ℕ) × P d × Edge c d)
+      → ((c : ℕ) → P c → Leads Edge P c c → ⊥)
       → (t : ℕ) → P t → ⊥
   endless zero P most next acyclic t p = most t p
   endless (suc n) P most next acyclic t p =
-      let Q : ℕ → Type 0 = λ c. P c × Path Edge P t c in
+      let Q : ℕ → Type 0 = λ c. P c × Leads Edge P t c in
       let q = next t p in
       endless n Q
-      (fewer n Q (Except t P) (λ (c : ℕ) (w : Q c). (w .0, λ (e : c ≡ t). acyclic t p (subst (λ (x : ℕ). Path Edge P t x) e (w .1)))) (most t p))
-      (λ (c : ℕ) (w : Q c). let r = next c (w .0) in (r .0, (r .1, (suc (w .1 .0), onward P (w .1 .0) t c (r .0) (w .1 .1) (w .0) (r .2))), r .2))
-      (λ (c : ℕ) (w : Q c) (v : Path Edge Q c c). acyclic c (w .0) (v .0, widened Q P (λ (x : ℕ) (y : Q x). y .0) (v .0) c c (v .1)))
+      (fewer n Q (Except t P) (λ (c : ℕ) (w : Q c).
+      (w .0, λ (e : c ≡ t). acyclic t p (subst (λ (x : ℕ). Leads Edge P t x) e (w .1)))) (most t p))
+      (λ (c : ℕ) (w : Q c). let r = next c (w .0) in
+      (r .0, (r .1, (suc (w .1 .0), onward P (w .1 .0) t c (r .0) (w .1 .1) (w .0) (r .2))), r .2))
+      (λ (c : ℕ) (w : Q c) (v : Leads Edge Q c c). acyclic c (w .0)
+      (v .0, widened Q P (λ (x : ℕ) (y : Q x). y .0) (v .0) c c (v .1)))
       (q .0) (q .1, (1, inl (q .2)))
 
 module _ (Edge : ℕ → ℕ → Type 0) (Through : ℕ → Type 0) (within : (c : ℕ) → Through c → c < 64) where
   -- Nodes are below 64: all but the end are 63.
-  pub shortened : (a b : ℕ) → b < 64 → Path Edge Through a b → Way Edge Through 64 a b
+  pub shortened : (a b : ℕ) → b < 64 → Leads Edge Through a b → Way Edge Through 64 a b
   shortened a b l (n, w) =
       let most : AtMost 63 (Except b Through) =
-      fewer 63 (Except b Through) (Except b (λ c. c < 64)) (λ (c : ℕ) (t : Except b Through c). (within c (t .0), t .1)) (below 64 b l)
+      fewer 63 (Except b Through) (Except b (λ c. c < 64))
+      (λ (c : ℕ) (t : Except b Through c). (within c (t .0), t .1)) (below 64 b l)
       in
       widened Edge (Except b Through) Through (λ (c : ℕ) (t : Except b Through c). t .0) 64 a b
-      (short Edge 63 (Except b Through) most a b (n, first-arrival Edge Through (Except b Through) b (λ c t other. (t, other)) n a w))
+      (short Edge 63 (Except b Through) most a b
+      (n, first-arrival Edge Through (Except b Through) b (λ c t other. (t, other)) n a w))
 
   -- So such nodes that lie on no cycle, and each lead to such a node, are none.
-  pub none-lead-on : ((c : ℕ) → Through c → (d : ℕ) × Through d × Edge c d) → ((c : ℕ) → Through c → Way Edge Through 64 c c → ⊥)
+  pub none-lead-on : ((c : ℕ) → Through c → (d : ℕ) × Through d × Edge c d)
+      → ((c : ℕ) → Through c → Way Edge Through 64 c c → ⊥)
       → (t : ℕ) → Through t → ⊥
   none-lead-on next acyclic =
       endless Edge 64 Through (fewer 64 Through (λ c. c < 64) within (below 64)) next
-      (λ (c : ℕ) (t : Through c) (w : Path Edge Through c c). acyclic c t (shortened c c (within c t) w))
+      (λ (c : ℕ) (t : Through c) (w : Leads Edge Through c c). acyclic c t (shortened c c (within c t) w))

@@ -32,10 +32,14 @@ module _ (t : ℕ) where
   add-digit c = search needs
 
   within : lts.Need-slice-write-out (below t, put-decimal.Post) (given t) put-decimal.Post
-  within c = let a = c .before .before in digit-within (a .args .out .now) (a .args .at) (a .args .number) (a .pre .1) (c .if1 .taken)
+  within c =
+      let a = c .before .before in
+      digit-within (a .args .out .now) (a .args .at) (a .args .number) (a .pre .1) (c .if1 .taken)
 
   one : lts.Need-returns (below t, put-decimal.Post) (given t) put-decimal.Post
-  one c = let a = c .before .before in digit-put (a .args .out .now) (a .args .at) (a .args .number) (a .pre .1) (c .if1 .taken)
+  one c =
+      let a = c .before .before in
+      digit-put (a .args .out .now) (a .args .at) (a .args .number) (a .pre .1) (c .if1 .taken)
 
   others-requires : lts.Need-put-decimal-requires (below t, put-decimal.Post) (given t) put-decimal.Post
   others-requires c κs =
@@ -54,13 +58,15 @@ module _ (t : ℕ) where
   bounded c = omega (arith, start c .fits .number)
 
   others : (c : Behind) → let a = start c .args in
-      Put (a .out .now) (a .at) (decimal (a .number / 10)) (c .before .before .put-decimal .last .0) (c .before .before .put-decimal .result)
+      Put (a .out .now) (a .at) (decimal (a .number / 10)) (c .before .before .put-decimal .last .0)
+      (c .before .before .put-decimal .result)
   others c = c .before .before .put-decimal .ensures
 
   last : lts.Need-slice-write-out-2 (below t, put-decimal.Post) (given t) put-decimal.Post
   last c =
       let a = start c in
-      last-within (a .args .out .now) (a .args .at) (a .args .number) (a .pre .1) (c .before .before .before .before .if1 .left) (bounded c) (others c)
+      last-within (a .args .out .now) (a .args .at) (a .args .number) (a .pre .1)
+      (c .before .before .before .before .if1 .left) (bounded c) (others c)
 
   next : lts.Need-add-result-2 (below t, put-decimal.Post) (given t) put-decimal.Post
   next c = omega (arith, last c)
@@ -69,12 +75,14 @@ module _ (t : ℕ) where
   same c =
       let a = start c in
       length-set (c .before .before .put-decimal .last .0) (c .before .before .put-decimal .result) _
-      ∙ same-length (a .args .out .now) (a .args .at) (a .args .number) (a .pre .1) (c .before .before .before .before .if1 .left) (bounded c) (others c)
+      ∙ same-length (a .args .out .now) (a .args .at) (a .args .number) (a .pre .1)
+      (c .before .before .before .before .if1 .left) (bounded c) (others c)
 
   more : lts.Need-returns-2 (below t, put-decimal.Post) (given t) put-decimal.Post
   more c =
       let a = start c in
-      digits-put (a .args .out .now) (a .args .at) (a .args .number) (a .pre .1) (c .before .before .before .before .if1 .left) (bounded c) (others c)
+      digits-put (a .args .out .now) (a .args .at) (a .args .number) (a .pre .1)
+      (c .before .before .before .before .if1 .left) (bounded c) (others c)
 
 pub +put-decimal-spec : {M : Type 1} → statement M
 +put-decimal-spec = close μ λ t. lts.spec (below t, put-decimal.Post) (given t) put-decimal.Post

@@ -8,7 +8,8 @@ returns : tie.Need-returns
 returns c =
     let start = c .before .before .before .before .before .before in
     let copy = c .before .before .copy in
-    copied (start .args .out .now) (start .args .at) (start .args .text .now) (copy .last .1 .0) (copy .result) (start .pre) (copy .ensures .0)
+    copied (start .args .out .now) (start .args .at) (start .args .text .now) (copy .last .1 .0) (copy .result)
+    (start .pre) (copy .ensures .0)
     (copy .ensures .1)
 
 pub put-spec : {M : Type 1} → statement M

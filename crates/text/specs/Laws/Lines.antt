@@ -18,7 +18,7 @@ Without separator [] = Unit {0}
 Without separator (b ∷ text) = (eqb b separator ≡ false) × Without separator text
 
 -- The same as a test.
-abbrev pub lacks : ℕ → List ℕ → Bool
+abbrev lacks : ℕ → List ℕ → Bool
 lacks separator [] = true
 lacks separator (b ∷ text) = not (eqb b separator) && lacks separator text
 
@@ -36,7 +36,8 @@ front-without separator (b ∷ text) =
     cases (eqb b separator) (λ (e : eqb b separator ≡ true). rw e tt)
     (λ (e : eqb b separator ≡ false). rw e (e, front-without separator text))
 
-pub without-append : (separator : ℕ) (xs ys : List ℕ) → Without separator xs → Without separator ys → Without separator (xs ++ ys)
+pub without-append : (separator : ℕ) (xs ys : List ℕ) → Without separator xs → Without separator ys
+    → Without separator (xs ++ ys)
 without-append separator [] ys p q = q
 without-append separator (x ∷ xs) ys p q = (p .0, without-append separator xs ys (p .1) q)
 
@@ -51,7 +52,8 @@ pub begun-empty : (pieces : List (List ℕ)) → begun [] pieces ≡ pieces
 begun-empty [] = refl
 begun-empty (piece ∷ pieces) = refl
 
-pub begun-longer : (text : List ℕ) (b : ℕ) (pieces : List (List ℕ)) → begun (text ++ (b ∷ [])) pieces ≡ begun text (longer b pieces)
+pub begun-longer : (text : List ℕ) (b : ℕ) (pieces : List (List ℕ))
+    → begun (text ++ (b ∷ [])) pieces ≡ begun text (longer b pieces)
 begun-longer text b [] = refl
 begun-longer text b (piece ∷ pieces) = ap (λ (l : List ℕ). l ∷ pieces) (append-assoc text (b ∷ []) piece)
 
@@ -78,10 +80,12 @@ within-without : (separator : ℕ) → separator < 48 → (k n : ℕ) → Withou
 unfolding decimalWithin
 within-without separator low zero n = tt
 within-without separator low (suc k) n =
-    let last : eqb (48 + n % 10) separator ≡ false = ne-eqb (48 + n % 10) separator (λ (e : 48 + n % 10 ≡ separator). omega arith) in
+    let last : eqb (48 + n % 10) separator ≡ false =
+    ne-eqb (48 + n % 10) separator (λ (e : 48 + n % 10 ≡ separator). omega arith) in
     cases (ltb n 10) (λ (e : ltb n 10 ≡ true). rw e (last, tt))
     (λ (e : ltb n 10 ≡ false).
-    rw e (without-append separator (decimalWithin k (n / 10)) ((48 + n % 10) ∷ []) (within-without separator low k (n / 10)) (last, tt)))
+    rw e (without-append separator (decimalWithin k (n / 10)) ((48 + n % 10) ∷ [])
+    (within-without separator low k (n / 10)) (last, tt)))
 
 pub decimal-without : (separator : ℕ) → separator < 48 → (n : ℕ) → Without separator (decimal n)
 unfolding decimal

@@ -30,29 +30,46 @@ module _ (out : List ℕ) (at : ℕ) (text : List ℕ) (fits : at + length text 
   put-put more =
       let sum : at + length text + length more ≡ at + length (text ++ more) = omega (arith, length-append text more) in
       ap₂ (λ (x y : List ℕ). x ++ more ++ y) front
-      (sym (drop-drop (length more) (at + length text) (put out at text)) ∙ ap (drop (length more)) back ∙ drop-drop (length more) (at + length text) out)
+      (sym (drop-drop (length more) (at + length text) (put out at text)) ∙ ap (drop (length more)) back
+      ∙ drop-drop (length more) (at + length text) out)
       ∙ ap₂ (λ (x : List ℕ) (n : ℕ). x ++ drop n out) (append-assoc (take at out) text more) sum
 
 -- Nothing is put.
 pub nothing : (out : List ℕ) (at : ℕ) → Put out at [] out at
-nothing out at = record { buffer = sym (ap₂ (λ (x : List ℕ) (n : ℕ). x ++ drop n out) (append-nil (take at out)) (add-zero at) ∙ take-append-drop at out); behind = sym (add-zero at) }
+nothing out at =
+    record {
+      buffer =
+          sym (ap₂ (λ (x : List ℕ) (n : ℕ). x ++ drop n out) (append-nil (take at out)) (add-zero at)
+          ∙ take-append-drop at out);
+      behind = sym (add-zero at);
+    }
 
 -- One text behind another.
-pub then : {out text out₁ more out₂ : List ℕ} {at end end₂ : ℕ} → Put out at text out₁ end → at + length text ≤ length out → Put out₁ end more out₂ end₂
+pub then : {out text out₁ more out₂ : List ℕ} {at end end₂ : ℕ} → Put out at text out₁ end
+    → at + length text ≤ length out → Put out₁ end more out₂ end₂
     → Put out at (text ++ more) out₂ end₂
 then {out} {text} {out₁} {more} {out₂} {at} {end} first fits second =
     record {
-      buffer = second .buffer ∙ ap₂ (λ (o : List ℕ) (n : ℕ). put o n more) (first .buffer) (first .behind) ∙ put-put out at text fits more;
+      buffer =
+          second .buffer ∙ ap₂ (λ (o : List ℕ) (n : ℕ). put o n more) (first .buffer) (first .behind)
+          ∙ put-put out at text fits more;
       behind = second .behind ∙ omega (arith, first .behind, length-append text more);
     }
 
 -- A byte stored.
 pub stored : (out : List ℕ) (at b : ℕ) → at < length out → Put out at (b ∷ []) (set out at b) (at + 1)
-stored out at b within = record { buffer = set-split out at b within ∙ sym (append-snoc (take at out) b (drop (suc at) out)) ∙ ap (λ (n : ℕ). take at out ++ (b ∷ []) ++ drop n out) (sym (add-one at)); behind = refl }
+stored out at b within =
+    record {
+      buffer =
+          set-split out at b within ∙ sym (append-snoc (take at out) b (drop (suc at) out))
+          ∙ ap (λ (n : ℕ). take at out ++ (b ∷ []) ++ drop n out) (sym (add-one at));
+      behind = refl;
+    }
 
 -- A text copied into the part of a buffer that starts at a place.
 pub copied : (out : List ℕ) (at : ℕ) (text part : List ℕ) (n : ℕ) → at + length text ≤ length out → n ≡ length text
-    → part ≡ take (length text) text ++ drop (length text) (midOf at (length out - at) out) → Put out at text (putMid at (length out - at) out part) (at + n)
+    → part ≡ take (length text) text ++ drop (length text) (midOf at (length out - at) out)
+    → Put out at text (putMid at (length out - at) out part) (at + n)
 copied out at text part n fits whole written =
     let size : length (drop at out) ≤ length out - at = omega (arith, length-drop at out) in
     let all : part ≡ text ++ drop (at + length text) out =

@@ -30,7 +30,8 @@ pub record Says (n : ℕ) (text : List ℕ) : Type 0 where
   pub digits : allDigits text ≡ true
   pub value : valueAfter 0 text ≡ n
 
-says-last : (n : ℕ) (text : List ℕ) → allDigits text ≡ true → valueAfter 0 text ≡ n / 10 → Says n (text ++ ((48 + n % 10) ∷ []))
+says-last : (n : ℕ) (text : List ℕ) → allDigits text ≡ true → valueAfter 0 text ≡ n / 10
+    → Says n (text ++ ((48 + n % 10) ∷ []))
 says-last n text digits value =
     record {
       nonempty = rw length-append (omega arith);
@@ -58,4 +59,10 @@ pub decimal-number : (n : ℕ) → n < 4_294_967_296 → isNumber (decimal n) �
 decimal-number n fits =
     let so = decimal-says n (omega arith) in
     let short = length-decimal 10 n (omega arith) (omega arith) in
-    rw (le-leb 1 (length (decimal n)) (so .nonempty), le-leb (length (decimal n)) 10 short, so .digits, so .value, lt-ltb n 4_294_967_296 fits)
+    rw (
+      le-leb 1 (length (decimal n)) (so .nonempty),
+      le-leb (length (decimal n)) 10 short,
+      so .digits,
+      so .value,
+      lt-ltb n 4_294_967_296 fits,
+    )

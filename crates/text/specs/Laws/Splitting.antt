@@ -24,7 +24,8 @@ module _ (separator : ℕ) where
   first-piece k text = take k text ∷ further separator (drop k text)
 
   split-step : (found : Bool) (b : ℕ) (text : List ℕ) (k : ℕ) → split separator text ≡ first-piece k text
-      → cond found ([] ∷ split separator text) (longer b (split separator text)) ≡ first-piece (indexAfter found k) (b ∷ text)
+      → cond found ([] ∷ split separator text) (longer b (split separator text))
+      ≡ first-piece (indexAfter found k) (b ∷ text)
   unfolding indexAfter
   split-step true b text k e = refl
   split-step false b text k e = ap (longer b) e
@@ -34,7 +35,8 @@ module _ (separator : ℕ) where
   split-first [] = refl
   split-first (b ∷ text) = split-step (eqb b separator) b text (indexOf separator text) (split-first text)
 
-  separated-step : (b : ℕ) (text : List ℕ) (k : ℕ) → Separated separator (drop k text) → (found : Bool) → eqb b separator ≡ found
+  separated-step : (b : ℕ) (text : List ℕ) (k : ℕ) → Separated separator (drop k text) → (found : Bool)
+      → eqb b separator ≡ found
       → Separated separator (drop (indexAfter found k) (b ∷ text))
   unfolding indexAfter
   separated-step b text k rest true e = eqb-true b separator e
