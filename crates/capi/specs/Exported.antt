@@ -1,11 +1,11 @@
 -- Replies as the C interface writes them.
-use Prim.Native.Nat.{ℕ, _+_, _*_}
+use Prim.Native.Nat.{ℕ, _*_}
 use mathlib.Core.Path.{_≡_}
 use mathlib.Core.Bool.{cond}
 use mathlib.Core.List.{List}
 use lib.Dec.{eqb}
 use lib.ListN.{take, drop}
-use Rattle.store.specs.Layout.{base, objectStart}
+use Rattle.store.specs.Layout.{base, rowsStart}
 use Rattle.store.specs.Decisions.{whetherSound}
 use Rattle.protocol.specs.Replies.{Served}
 use Rattle.protocol.specs.Calls as calls
@@ -30,7 +30,7 @@ abbrev pub part : ℕ → Numbers → Part
 part object n =
     record {
       refusal = n .refusal;
-      start = cond (eqb (n .refusal) 0) (objectStart object + 2) 0;
+      start = cond (eqb (n .refusal) 0) (rowsStart object) 0;
       rows = n .rows;
     }
 

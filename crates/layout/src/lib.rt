@@ -8,7 +8,7 @@ ghost use Prim.Native.Nat.{ℕ, _+_, _*_, _<_, _≤_};
 ghost use lib.ListN.{length, replicate};
 ghost use Rattle.store.specs.Store.{entryLimit, objectCount};
 ghost use Rattle.operations.specs.Operations.{rowLimit};
-ghost use Rattle.store.specs.Layout.{BookLong, word, tabulate, entryStart, objectStart, rowAt, rowsAt};
+ghost use Rattle.store.specs.Layout.{BookLong, word, tabulate, entryStart, objectStart, rowsStart, rowAt, rowsAt};
 ghost use Rattle.replay.specs.Replay.{rowsOf};
 ghost use Rattle.layout.specs.Rows.{rowIn};
 
@@ -141,7 +141,7 @@ pub fn object_start(object: usize) -> usize
 
 pub fn rows_start(object: usize) -> usize
     requires { ⌜ object < objectCount ⌝ }
-    ensures { λ r. ⌜ r ≡ objectStart object + 2 ⌝ }
+    ensures { λ r. ⌜ r ≡ rowsStart object ⌝ }
 {
     object_start(object) + FIRST_ROW
 }

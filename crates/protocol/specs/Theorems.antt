@@ -18,7 +18,7 @@ use Rattle.operations.specs.Laws.Objects.{object}
 use Rattle.store.specs.Store.{absent, active, pseudoCommitted, Logged, Store, statusOf, Active, PseudoCommitted}
 use Rattle.store.specs.Store.{pseudoCommittedCount, objectOf, onObject}
 use Rattle.store.specs.Dependency.{Any, DependsOn, Ready, Leads, OnCycle}
-use Rattle.store.specs.Layout.{decode, word, objectStart, readKind, joined, rowWords, Representable, base}
+use Rattle.store.specs.Layout.{decode, word, rowsStart, readKind, joined, rowWords, Representable, base}
 use Rattle.store.specs.Steps.{appended, without, withStatus}
 use Rattle.store.specs.Soundness.{Unsettled, Sound}
 use Rattle.store.specs.Decisions.{whetherSound}
@@ -115,7 +115,7 @@ pub contents-leaves : (w : List ℕ) (o : ℕ) → contentsReason base whetherSo
     → let r = contents base whetherSound w o in
     let rows = objectOf (decode base w) o .rows in
     (r .outcome .reply ≡ counted (length rows)) × (r .book ≡ w) × (r .outcome .rows ≡ joined rowWords rows)
-    × (r .outcome .rows ≡ take (2 * length rows) (drop (objectStart o + 2) w))
+    × (r .outcome .rows ≡ take (2 * length rows) (drop (rowsStart o) w))
 contents-leaves w o accepted =
     let so = leaving.contents-served w o accepted in
     let handed = ap (λ (r : Served). r .outcome .rows) so in (

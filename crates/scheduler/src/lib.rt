@@ -6,7 +6,7 @@ ghost use mathlib.Core.Bool.{false};
 ghost use mathlib.Core.List.{[]};
 ghost use lib.ListN.{length, take, drop};
 ghost use Rattle.store.specs.Store.{objectCount};
-ghost use Rattle.store.specs.Layout.{BookLong, base, encode, objectStart};
+ghost use Rattle.store.specs.Layout.{BookLong, base, encode, rowsStart};
 ghost use Rattle.store.specs.Decisions.{whetherSound};
 ghost use Rattle.protocol.specs.Replies.{served, outcome, counted};
 ghost use Rattle.protocol.specs.Calls as calls;
@@ -114,7 +114,7 @@ pub fn contents(book: &[u32], object: u32) -> &[u32]
     ensures handed { λ r. ⌜ now r ≡ calls.contents base whetherSound (now (book .entry)) object .outcome .rows ⌝ }
     ensures part { λ r. ⌜ ((n : ℕ)
         → calls.contents base whetherSound (now (book .entry)) object .outcome .reply ≡ counted n
-        → now r ≡ take (2 * n) (drop (objectStart object + 2) (now (book .entry)))) ⌝ }
+        → now r ≡ take (2 * n) (drop (rowsStart object) (now (book .entry)))) ⌝ }
 {
     if refusals::contents(book, object) != protocol::ACCEPTED {
         return &book[0..0];

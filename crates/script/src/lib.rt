@@ -72,8 +72,8 @@ fn reply(book: &mut [u32], line: &[u8], out: &mut [u8], at: usize) -> usize
     }
 }
 
-// Answers a line with a line.
-fn answer(book: &mut [u32], line: &[u8], out: &mut [u8], at: usize) -> usize
+// Replies to a line with a line.
+fn reply_line(book: &mut [u32], line: &[u8], out: &mut [u8], at: usize) -> usize
     requires { ⌜ at + 266 ≤ length (now out) ⌝ }
     ensures { λ r. ⌜ Turned (lineEnded (session (now (book .entry)) (now (line .entry)))) (now (book .exit))
         (now (out .entry)) at (now (out .exit)) r
@@ -123,7 +123,7 @@ fn take_line(
     Progress {
         at: end + 1,
         kept: 0,
-        written: answer(book, &line[..kept], out, written),
+        written: reply_line(book, &line[..kept], out, written),
     }
 }
 
@@ -169,5 +169,5 @@ pub fn end_input(book: &mut [u32], line: &[u8], out: &mut [u8]) -> usize
     if line.len() == 0 {
         return 0;
     }
-    answer(book, line, out, 0)
+    reply_line(book, line, out, 0)
 }

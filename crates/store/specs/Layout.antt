@@ -176,8 +176,12 @@ pub record Representable (format : Format) (s : Store) : Type 0 where
 abbrev pub objectStart : ℕ → ℕ
 objectStart o = objectsStart + objectWidth * o
 
+-- Its rows stand behind its kind and their number.
+abbrev pub rowsStart : ℕ → ℕ
+rowsStart o = objectStart o + 2
+
 abbrev pub rowAt : List ℕ → ℕ → ℕ → Row
-rowAt w o i = let start = objectStart o + 2 + 2 * i in row (word w start) (word w (start + 1))
+rowAt w o i = let start = rowsStart o + 2 * i in row (word w start) (word w (start + 1))
 
 abbrev pub rowsAt : List ℕ → ℕ → List Row
 rowsAt w o = tabulate (word w (objectStart o + 1)) (rowAt w o)
@@ -193,7 +197,7 @@ pub record ObjectPacked (w : List ℕ) (o : ℕ) : Type 0 where
   pub rows : word w (objectStart o + 1) ≤ rowLimit
   -- kind 0 has no rows
   pub none : word w (objectStart o) ≡ 0 → word w (objectStart o + 1) ≡ 0
-  pub unused : (i : ℕ) → 2 * word w (objectStart o + 1) ≤ i → i < 2 * rowLimit → word w (objectStart o + 2 + i) ≡ 0
+  pub unused : (i : ℕ) → 2 * word w (objectStart o + 1) ≤ i → i < 2 * rowLimit → word w (rowsStart o + i) ≡ 0
 
 pub record ObjectFits (x : Object) : Type 0 where
   pub rows : length (x .rows) ≤ rowLimit

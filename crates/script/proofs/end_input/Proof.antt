@@ -14,7 +14,7 @@ line-begun c =
     let a = c .before .before .before .before .before .before .before .before .before .before .before .args in
     closed-line (a .book .now) (a .line .now) (a .out .now)
     (c .before .before .before .before .before .before .before .if1 .left)
-    (c .before .before .before .before .answer .ensures)
+    (c .before .before .before .before .reply-line .ensures)
 
 pub end-input-spec : {M : Type 1} → statement M
 end-input-spec =

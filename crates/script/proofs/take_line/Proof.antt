@@ -16,7 +16,7 @@ rest c =
     (a .pre .1) (a .pre .0) (a .pre .2) (a .pre .3) _ (find .ensures .0) _ _ (keep .ensures)
     (c .if1 .taken)
 
-kept-there : tie.Need-slice-aggregate-answer
+kept-there : tie.Need-slice-aggregate-reply-line
 kept-there c =
     let keep = c .before .before .before .before .before .keep in
     sym (length-take-le (keep .result) (keep .last .0) (omega (arith, keep .ensures .0, keep .ensures .2)))
@@ -29,7 +29,7 @@ line c =
     let a = found .before .before .before .before .before in
     took-line (a .args .book .now) (a .args .line .now) (a .args .block .now) (a .args .out .now) (a .args .from)
     (a .pre .1) (a .pre .0) (a .pre .2) (a .pre .3) _ (found .find .ensures .0) _ _ (kept .keep .ensures)
-    (omega (arith, found .find .ensures .1, tested .if1 .left)) (c .before .before .before .before .answer .ensures)
+    (omega (arith, found .find .ensures .1, tested .if1 .left)) (c .before .before .before .before .reply-line .ensures)
 
 pub take-line-spec : {M : Type 1} → statement M
 take-line-spec =

@@ -52,7 +52,7 @@ taken-part w line (b ∷ part) few free =
 
 -- ---- The lines of a script
 
--- What stands behind 178 bytes of a line changes no answer.
+-- What stands behind 178 bytes of a line changes no reply.
 front-served : (w line : List ℕ) → lineServed w (take 178 line) ≡ lineServed w line
 unfolding lineServed
 front-served w line = ap (λ (call : Option Call). serving call w) (front-enough line)

@@ -1,8 +1,8 @@
--- `script::answer`: the reply, and a line feed behind it.
+-- `script::reply_line`: the reply, and a line feed behind it.
 use borrow.Author.Needs.{needs}
 use Rattle.script.specs.Laws.Serving.{with-line-feed}
-use Rattle.script.proofs.answer.Statement.{statement}
-use Rattle.script.proofs.answer.Tie as tie
+use Rattle.script.proofs.reply_line.Statement.{statement}
+use Rattle.script.proofs.reply_line.Tie as tie
 
 returns : tie.Need-returns
 returns c =
@@ -11,8 +11,8 @@ returns c =
     with-line-feed (a .args .book .now) (a .args .line .now) (a .pre) (said .reply .ensures)
     (c .before .before .put .ensures)
 
-pub answer-spec : {M : Type 1} → statement M
-answer-spec =
+pub reply-line-spec : {M : Type 1} → statement M
+reply-line-spec =
     tie.close
     (tie.spec (λ c κs. search needs) (λ c. search needs) (λ c κs. search needs) (λ c. search needs)
     (λ c. search needs) returns)
