@@ -27,12 +27,13 @@ pub struct Numbers {
     pub rows: u32,
 }
 
+// What a reply does not have is 0, and 0 is the code of a wait too.
 pub fn numbers_of(reply: Reply) -> Numbers
     ensures { λ r. ⌜ r ≡ numbersOf (replyOf reply) ⌝ }
 {
     let mut n = Numbers {
         refusal: protocol::ACCEPTED,
-        code: 0,
+        code: WAIT,
         owner: 0,
         answer: 0,
         value: 0,
@@ -41,10 +42,7 @@ pub fn numbers_of(reply: Reply) -> Numbers
     };
     match reply {
         Reply::Ok => {}
-        Reply::Wait(owner) => {
-            n.code = WAIT;
-            n.owner = owner;
-        }
+        Reply::Wait(owner) => n.owner = owner,
         Reply::Answered(code, value) => {
             n.code = ANSWERED;
             n.answer = code;
