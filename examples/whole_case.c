@@ -37,12 +37,23 @@ static void print_accepted(lending_desk_accepted reply) {
     }
 }
 
+/* How many handouts an operation waits for, then these, ascending. */
+static void print_wait(uint64_t owners, uint32_t count) {
+    printf("wait %" PRIu32, count);
+    for (int handout = 0; handout < LENDING_DESK_HANDOUTS; handout++) {
+        if (owners >> handout & 1) {
+            printf(" %d", handout);
+        }
+    }
+    printf("\n");
+}
+
 static void print_operated(lending_desk_operated reply) {
     if (refused(reply.refusal)) {
         return;
     }
     if (reply.code == LENDING_DESK_WAIT) {
-        printf("wait %" PRIu32 "\n", reply.owner);
+        print_wait(reply.owners, reply.count);
     } else {
         printf("answer %" PRIu32 " %" PRIu32 "\n", reply.answer, reply.value);
     }

@@ -33,7 +33,7 @@ impl Desk {
     fn operate(&mut self, handout: u32, object: u32, operation: u32, key: u32, value: u32) {
         let reply = lending_desk::operate(&mut self.book, handout, object, operation, key, value);
         let reply = reply.map(|operated| match operated {
-            Operated::Wait { owner } => format!("wait {owner}"),
+            Operated::Wait(owners) => format!("wait {} {}", owners.count(), numbers(owners)),
             Operated::Answered { code, value } => format!("answer {code} {value}"),
         });
         print(&format!("I {handout} {object} {operation} {key} {value}"), reply);
@@ -61,8 +61,8 @@ impl Desk {
     }
 }
 
-fn numbers(bytes: &[u8]) -> String {
-    bytes.iter().map(u8::to_string).collect::<Vec<_>>().join(" ")
+fn numbers(numbers: impl IntoIterator<Item = impl ToString>) -> String {
+    numbers.into_iter().map(|number| number.to_string()).collect::<Vec<_>>().join(" ")
 }
 
 fn print(call: &str, reply: Result<String, Refusal>) {

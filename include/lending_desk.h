@@ -19,13 +19,14 @@ extern "C" {
 
 /* The version of book, calls and replies, for books and programs that outlive one version: 1 is the base's, and each
  * change request raises it. A macro, so that #if can ask for it. */
-#define LENDING_DESK_VERSION 1
+#define LENDING_DESK_VERSION 2
 
 enum {
-    LENDING_DESK_WORDS = 3937, /* words of a book */
-    LENDING_DESK_OBJECTS = 16, /* objects 0 to 15, each of a kind */
-    LENDING_DESK_LIST = 64,    /* bytes that the list lent to finish and cancel has at least */
-    LENDING_DESK_FRAME = 10240 /* bytes of stack that a call takes at the most: measured, and not proved */
+    LENDING_DESK_WORDS = 3937,  /* words of a book */
+    LENDING_DESK_HANDOUTS = 64, /* handouts 0 to 63 */
+    LENDING_DESK_OBJECTS = 16,  /* objects 0 to 15, each of a kind */
+    LENDING_DESK_LIST = 64,     /* bytes that the list lent to finish and cancel has at least */
+    LENDING_DESK_FRAME = 10240  /* bytes of stack that a call takes at the most: measured, and not proved */
 };
 
 /* Kinds of objects, for set up. */
@@ -53,7 +54,7 @@ enum {
 
 /* Reply codes. They mean something only where `refusal` is 0. */
 enum {
-    LENDING_DESK_WAIT = 0,      /* an entry of the handout `owner` forces a wait; nothing was changed */
+    LENDING_DESK_WAIT = 0,      /* entries of the handouts in `owners` force a wait; nothing was changed */
     LENDING_DESK_ANSWERED = 1,  /* `answer` and `value` are the answer */
     LENDING_DESK_FINISHED = 2,  /* it depends on others, and commits when they have ended */
     LENDING_DESK_COMMITTED = 3, /* it committed, the first in the list */
@@ -83,10 +84,13 @@ typedef struct {
     uint32_t refusal;
 } lending_desk_accepted;
 
+/* The owners of a wait are a set of handouts: handout h is in it where `owners >> h & 1` is 1, so h from 0 to 63 walks it
+ * ascending. `count` is how many there are, at least one; the handout that asks is never among them. */
 typedef struct {
     uint32_t refusal;
     uint32_t code;   /* wait or answered */
-    uint32_t owner;  /* of a wait */
+    uint64_t owners; /* of a wait: all whose entries force it, as 64 bits */
+    uint32_t count;  /* of a wait: how many they are */
     uint32_t answer; /* the answer's code */
     uint32_t value;  /* the answer's value */
 } lending_desk_operated;

@@ -2,7 +2,7 @@
 //!
 //! Sixteen objects of the three kinds with 32 committed rows each, and eight handouts whose operations overlap. 1 to 4
 //! are finished and commit as soon as 0 ends, on which they depend; 0 and 5 to 7 are open, and 7 depends on 0. Where a
-//! circle is asked for, 0 depends on 7 too, and 7 is finished.
+//! circle is asked for, 0 depends on 7 too, and 7 is finished. A crowded book has 64 handouts instead, all open.
 
 use reference::{calls, rules, Reply};
 
@@ -13,6 +13,9 @@ pub const KINDS: [u8; 16] = [1, 2, 3, 1, 2, 3, 1, 2, 3, 1, 2, 3, 1, 2, 3, 1];
 /// The object that entries are on where they are on one.
 pub const TABLE: u32 = 2;
 const HANDOUTS: u32 = 8;
+const CROWD: u32 = 64;
+/// The handout that operations are asked for.
+pub const ASKING: u32 = 5;
 const ROWS: usize = 32;
 /// Rows that an object has space for.
 const SPACE: usize = 64;
@@ -39,14 +42,19 @@ pub struct Log {
     /// Whether they are spread over all objects.
     pub spread: bool,
     pub circle: bool,
+    /// Whether every handout but the one that asks has an entry that makes it wait.
+    pub crowded: bool,
 }
 
 impl Log {
     pub fn built(self) -> Vec<u32> {
         let mut desk = Desk::set_up();
         desk.commit_rows();
-        (0..HANDOUTS).for_each(|handout| desk.begin(handout));
-        if self.entries > 0 {
+        let handouts = if self.crowded { CROWD } else { HANDOUTS };
+        (0..handouts).for_each(|handout| desk.begin(handout));
+        if self.crowded {
+            desk.crowd(self.entries);
+        } else if self.entries > 0 {
             desk.fill(self);
         }
         desk.book
@@ -109,6 +117,16 @@ impl Desk {
             assert_eq!(self.finish(7), Reply::Finished);
         }
         assert_eq!(self.entries().len(), log.entries);
+    }
+
+    /// Has all but the one that asks modify the same key, in turn.
+    fn crowd(&mut self, entries: usize) {
+        let others = (0..CROWD).filter(|&handout| handout != ASKING);
+        for handout in others.cycle().take(entries) {
+            assert!(self.operate(handout, TABLE, MODIFY, MODIFIED));
+        }
+        let asked = calls::operate(&mut self.book, ASKING, TABLE, LOOKUP, MODIFIED, 0);
+        assert!(matches!(asked, Ok(Reply::Wait { count, .. }) if count == CROWD - 1));
     }
 
     fn entries(&self) -> Vec<&[u32]> {

@@ -14,13 +14,13 @@ pub enum Call {
     Contents { object: u32 },
 }
 
-/// What is replied, by the numbers of `include/lending_desk.h`. The last two are owner and 0, answer and value, count
-/// and 0, or start and rows.
+/// What is replied, by the numbers of `include/lending_desk.h`. The last two are owners and their count, answer and
+/// value, count and 0, or start and rows.
 #[derive(Clone, Copy, Debug, Default, PartialEq, Eq)]
 pub struct Said {
     pub refusal: u32,
     pub code: u32,
-    pub numbers: [u32; 2],
+    pub numbers: [u64; 2],
 }
 
 /// Makes a call on a book and a list.
@@ -29,21 +29,21 @@ pub type Serve = fn(&Call, &mut [u32], &mut [u8]) -> Said;
 #[inline(never)]
 pub fn proved(call: &Call, book: &mut [u32], list: &mut [u8]) -> Said {
     let accepted = |reply: raw::Accepted| Said { refusal: reply.refusal, ..Said::default() };
-    let ended = |reply: raw::Ended| Said { refusal: reply.refusal, code: reply.code, numbers: [reply.count, 0] };
+    let ended = |raw::Ended { refusal, code, count }| Said { refusal, code, numbers: [count.into(), 0] };
     match *call {
         Call::SetUp { ref kinds } => accepted(raw::set_up(book, kinds)),
         Call::Begin { handout } => accepted(raw::begin(book, handout)),
         Call::Operate { handout, object, operation, key, value } => {
-            let raw::Operated { refusal, code, owner, answer, value } =
+            let raw::Operated { refusal, code, owners, count, answer, value } =
                 raw::operate(book, handout, object, operation, key, value);
-            let numbers = if code == 0 { [owner, 0] } else { [answer, value] };
+            let numbers = if code == 0 { [owners, count.into()] } else { [answer.into(), value.into()] };
             Said { refusal, code, numbers }
         }
         Call::Finish { handout } => ended(raw::finish(book, handout, list)),
         Call::Cancel { handout } => ended(raw::cancel(book, handout, list)),
         Call::Contents { object } => {
             let raw::Part { refusal, start, rows } = raw::contents(book, object);
-            Said { refusal, code: 0, numbers: [start, rows] }
+            Said { refusal, code: 0, numbers: [start.into(), rows.into()] }
         }
     }
 }
@@ -61,7 +61,7 @@ pub fn second(call: &Call, book: &mut [u32], list: &mut [u8]) -> Said {
         Call::Contents { object } => {
             let rows = contents(book, object);
             let start = (rows.as_ptr() as usize - book.as_ptr() as usize) / 4;
-            Said { refusal: 0, code: 0, numbers: [start as u32, rows.len() as u32 / 2] }
+            Said { refusal: 0, code: 0, numbers: [start as u64, rows.len() as u64 / 2] }
         }
     }
 }
@@ -88,11 +88,11 @@ fn said(outcome: Outcome) -> Said {
     match outcome {
         Err(refusal) => Said { refusal: Refusal::number(refusal), ..Said::default() },
         Ok(Reply::Ok) => Said::default(),
-        Ok(Reply::Wait { owner }) => accepted(0, [owner, 0]),
-        Ok(Reply::Answer { code, value }) => accepted(1, [code, value]),
+        Ok(Reply::Wait { owners, count }) => accepted(0, [owners, count.into()]),
+        Ok(Reply::Answer { code, value }) => accepted(1, [code.into(), value.into()]),
         Ok(Reply::Finished) => accepted(2, [0, 0]),
-        Ok(Reply::Committed { count }) => accepted(3, [count as u32, 0]),
-        Ok(Reply::Circle { count }) => accepted(4, [count as u32, 0]),
-        Ok(Reply::Cancelled { count }) => accepted(5, [count as u32, 0]),
+        Ok(Reply::Committed { count }) => accepted(3, [count as u64, 0]),
+        Ok(Reply::Circle { count }) => accepted(4, [count as u64, 0]),
+        Ok(Reply::Cancelled { count }) => accepted(5, [count as u64, 0]),
     }
 }

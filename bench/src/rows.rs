@@ -1,6 +1,6 @@
 //! The rows of the table: a call, and the book that it is made on.
 
-use crate::books::{Log, INSERT, KINDS, LOOKUP, MODIFIED, NEW, TABLE};
+use crate::books::{Log, ASKING, INSERT, KINDS, LOOKUP, MODIFIED, NEW, TABLE};
 use crate::calls::{self, Call};
 
 /// A call on a book.
@@ -40,12 +40,13 @@ pub fn named(part: &str) -> impl Iterator<Item = Row> + '_ {
 
 /// Each call at each log at which it can get that reply.
 fn rows() -> Vec<Row> {
-    let operate = |operation, key| Call::Operate { handout: 5, object: TABLE, operation, key, value: 9 };
+    let operate = |operation, key| Call::Operate { handout: ASKING, object: TABLE, operation, key, value: 9 };
     let calls = [
         ("set up", Call::SetUp { kinds: KINDS }, 0),
         ("begin", Call::Begin { handout: 40 }, 0),
         ("operate, answered", operate(INSERT, NEW), 1),
         ("operate, wait", operate(LOOKUP, MODIFIED), 0),
+        ("operate, wait for 63", operate(LOOKUP, MODIFIED), 0),
         ("finish, committed", Call::Finish { handout: 0 }, 3),
         ("finish, finished", Call::Finish { handout: 7 }, 2),
         ("finish, circle", Call::Finish { handout: 0 }, 4),
@@ -54,11 +55,12 @@ fn rows() -> Vec<Row> {
     ];
     let mut rows = Vec::new();
     for (name, call, code) in calls {
-        let needs_entries = ["operate, wait", "finish, finished", "finish, circle"].contains(&name);
+        let crowded = name == "operate, wait for 63";
+        let needs_entries = crowded || ["operate, wait", "finish, finished", "finish, circle"].contains(&name);
         for (entries, spread) in [(0, false), (64, false), (256, false), (64, true), (256, true)] {
             // At 256 entries operate is refused.
             let entries = if matches!(call, Call::Operate { .. }) { entries.min(255) } else { entries };
-            if entries == 0 && needs_entries {
+            if entries == 0 && needs_entries || spread && crowded {
                 continue;
             }
             let place = match (entries, spread) {
@@ -66,7 +68,7 @@ fn rows() -> Vec<Row> {
                 (_, false) => format!("{entries} on one"),
                 (_, true) => format!("{entries} over 16"),
             };
-            let log = Log { entries, spread, circle: code == 4 };
+            let log = Log { entries, spread, circle: code == 4, crowded };
             rows.push(Row { name: format!("{name}, {place}"), log, call, code });
         }
     }

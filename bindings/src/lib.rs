@@ -8,10 +8,13 @@ pub mod raw;
 
 /// The version of book, calls and replies, for books and programs that outlive one version: 1 is the base's, and each
 /// change request raises it.
-pub const VERSION: u32 = 1;
+pub const VERSION: u32 = 2;
 
 /// Words of a book.
 pub const WORDS: usize = 3937;
+
+/// How many handouts there can be at a time, numbered from 0.
+pub const HANDOUTS: usize = 64;
 
 /// How many objects a book has; set up takes a kind for each: 0 none, 1 stack, 2 set, 3 table.
 pub const OBJECTS: usize = 16;
@@ -29,15 +32,67 @@ pub struct Refusal(pub u32);
 /// What operate replies.
 #[derive(Clone, Copy, Debug, PartialEq, Eq)]
 pub enum Operated {
-    /// Nothing was changed: an entry of this handout forces a wait.
-    Wait {
-        owner: u32,
-    },
+    /// Nothing was changed: entries of these handouts force a wait.
+    Wait(Owners),
     Answered {
         code: u32,
         value: u32,
     },
 }
+
+/// The handouts that an operation waits for, at least one: iterated, they ascend.
+#[derive(Clone, Copy, Debug, PartialEq, Eq)]
+pub struct Owners {
+    set: u64,
+    count: u32,
+}
+
+impl Owners {
+    /// How many there are.
+    pub fn count(self) -> usize {
+        self.count as usize
+    }
+
+    /// Whether a handout is one of them, whatever its number.
+    pub fn contains(self, handout: u32) -> bool {
+        self.set.checked_shr(handout).map_or(false, |set| set & 1 == 1)
+    }
+
+    /// All of them as 64 bits: bit h is handout h.
+    pub fn set(self) -> u64 {
+        self.set
+    }
+}
+
+impl IntoIterator for Owners {
+    type Item = u32;
+    type IntoIter = Ascending;
+
+    fn into_iter(self) -> Ascending {
+        Ascending(self.set)
+    }
+}
+
+/// The handouts of a set that are still to come, the lowest first.
+#[derive(Clone, Debug)]
+pub struct Ascending(u64);
+
+impl Iterator for Ascending {
+    type Item = u32;
+
+    fn next(&mut self) -> Option<u32> {
+        let lowest = (self.0 != 0).then(|| self.0.trailing_zeros())?;
+        self.0 &= self.0 - 1; // without its lowest bit
+        Some(lowest)
+    }
+
+    fn size_hint(&self) -> (usize, Option<usize>) {
+        let left = self.0.count_ones() as usize;
+        (left, Some(left))
+    }
+}
+
+impl ExactSizeIterator for Ascending {}
 
 /// What finish and cancel reply. The counts are of the handouts that committed, at the front of the list in order of commitment.
 #[derive(Clone, Copy, Debug, PartialEq, Eq)]
@@ -70,7 +125,7 @@ pub fn operate(
     let reply = raw::operate(book, handout, object, operation, key, value);
     accepted(reply.refusal)?;
     Ok(match reply.code {
-        0 => Operated::Wait { owner: reply.owner },
+        0 => Operated::Wait(Owners { set: reply.owners, count: reply.count }),
         _ => Operated::Answered { code: reply.answer, value: reply.value },
     })
 }

@@ -13,7 +13,8 @@ pub struct Accepted {
 pub struct Operated {
     pub refusal: u32,
     pub code: u32,
-    pub owner: u32,
+    pub owners: u64,
+    pub count: u32,
     pub answer: u32,
     pub value: u32,
 }

@@ -10,9 +10,10 @@ use std::ptr::addr_of;
 use common::{built, printed, run};
 use lending_desk::raw::{Accepted, Ended, Operated, Part};
 
-const NUMBERS: [(&str, usize); 38] = [
+const NUMBERS: [(&str, usize); 39] = [
     ("VERSION", lending_desk::VERSION as usize),
     ("WORDS", lending_desk::WORDS),
+    ("HANDOUTS", lending_desk::HANDOUTS),
     ("OBJECTS", lending_desk::OBJECTS),
     ("LIST", lending_desk::LIST),
     ("FRAME", lending_desk::FRAME),
@@ -65,7 +66,7 @@ macro_rules! layout {
 fn layouts() -> [Layout; 4] {
     [
         layout!("lending_desk_accepted", Accepted { refusal }),
-        layout!("lending_desk_operated", Operated { refusal, code, owner, answer, value }),
+        layout!("lending_desk_operated", Operated { refusal, code, owners, count, answer, value }),
         layout!("lending_desk_ended", Ended { refusal, code, count }),
         layout!("lending_desk_part", Part { refusal, start, rows }),
     ]

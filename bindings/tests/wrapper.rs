@@ -1,8 +1,11 @@
 //! The wrapper: each reply and refusal of the library as a value of Rust, and the part of the book that contents is.
 
-use lending_desk::{begin, cancel, contents, finish, operate, set_up, Ended, Operated, Refusal, LIST, OBJECTS, WORDS};
+use lending_desk::{
+    begin, cancel, contents, finish, operate, set_up, Ended, Operated, Owners, Refusal, LIST, OBJECTS, WORDS,
+};
 
 const PUSH: u32 = 1;
+const POP: u32 = 2;
 const TOP: u32 = 3;
 const MEMBER: u32 = 6;
 /// What lists hold before calls, to see which bytes are written.
@@ -23,13 +26,62 @@ fn push(book: &mut [u32], handout: u32, object: u32, item: u32) {
     assert_eq!(operate(book, handout, object, PUSH, item, 0), YES);
 }
 
+/// The owners that a pop waits for.
+#[track_caller]
+fn pop_waits(book: &mut [u32], handout: u32, object: u32) -> Owners {
+    match operate(book, handout, object, POP, 0, 0) {
+        Ok(Operated::Wait(owners)) => owners,
+        other => panic!("{other:?} and no wait"),
+    }
+}
+
 #[test]
 fn operate_answers_or_waits() {
     let mut book = book(&[4, 5]);
     push(&mut book, 4, 0, u32::MAX);
     assert_eq!(operate(&mut book, 4, 0, TOP, 0, 0), Ok(Operated::Answered { code: 1, value: u32::MAX }));
     assert_eq!(operate(&mut book, 4, 1, TOP, 0, 0), Ok(Operated::Answered { code: 0, value: 0 }));
-    assert_eq!(operate(&mut book, 5, 0, TOP, 0, 0), Ok(Operated::Wait { owner: 4 }));
+    assert!(matches!(operate(&mut book, 5, 0, TOP, 0, 0), Ok(Operated::Wait(_))));
+}
+
+#[test]
+fn wait_has_every_owner_once() {
+    let mut book = book(&[0, 9, 17, 63]);
+    push(&mut book, 63, 0, 1);
+    let one = pop_waits(&mut book, 9, 0);
+    assert_eq!((one.count(), one.set()), (1, 1 << 63));
+    for handout in [17, 9, 0, 63, 17] {
+        push(&mut book, handout, 0, 2);
+    }
+    let three = pop_waits(&mut book, 9, 0);
+    assert_eq!((three.count(), three.set()), (3, 1 | 1 << 17 | 1 << 63));
+    assert_eq!(three, pop_waits(&mut book, 9, 0));
+    assert_ne!(three, one);
+}
+
+#[test]
+fn owners_can_be_asked_for_and_iterated() {
+    let mut book = book(&(0..64).collect::<Vec<_>>());
+    [40, 3, 63].iter().for_each(|&handout| push(&mut book, handout, 0, 1));
+    let owners = pop_waits(&mut book, 5, 0);
+    assert!([3, 40, 63].iter().all(|&handout| owners.contains(handout)));
+    assert!(![0, 5, 62, 64, 67, u32::MAX].iter().any(|&handout| owners.contains(handout)));
+    let mut ascending = owners.into_iter();
+    for (left, handout) in [(3, 3), (2, 40), (1, 63)] {
+        assert_eq!((ascending.len(), ascending.next()), (left, Some(handout)));
+    }
+    assert_eq!((ascending.len(), ascending.next(), ascending.next()), (0, None, None));
+}
+
+#[test]
+fn wait_may_be_for_all_others() {
+    let mut book = book(&(0..64).collect::<Vec<_>>());
+    (0..64).for_each(|handout| push(&mut book, handout, 1, handout));
+    for handout in [0, 31, 63] {
+        let owners = pop_waits(&mut book, handout, 1);
+        assert_eq!((owners.count(), owners.set()), (63, !(1 << handout)));
+        assert!(owners.into_iter().eq((0..64).filter(|&other| other != handout)));
+    }
 }
 
 #[test]

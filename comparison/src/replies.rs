@@ -47,7 +47,7 @@ fn outcome(word: &str, numbers: &[u32]) -> Option<Outcome> {
         ("refused", &[number]) => return REFUSALS.into_iter().find(|refusal| refusal.number() == number).map(Err),
         ("ok", []) => Reply::Ok,
         ("answer", &[code, value]) => Reply::Answer { code, value },
-        ("wait", &[owner]) => Reply::Wait { owner },
+        ("wait", &[count, ref owners @ ..]) => Reply::Wait { owners: owner_set(count, owners)?, count },
         ("finished", []) => Reply::Finished,
         ("committed", _) => Reply::Committed { count },
         ("circle", _) => Reply::Circle { count },
@@ -55,6 +55,13 @@ fn outcome(word: &str, numbers: &[u32]) -> Option<Outcome> {
         _ => return None,
     };
     Some(Ok(reply))
+}
+
+/// The owners of a wait as a set; none unless they ascend, are below 64, and are as many as it says, at least one.
+fn owner_set(count: u32, owners: &[u32]) -> Option<u64> {
+    let ascend = owners.windows(2).all(|pair| pair[0] < pair[1]) && owners.iter().all(|&owner| owner < 64);
+    let counted = count > 0 && count as usize == owners.len();
+    (ascend && counted).then(|| owners.iter().fold(0, |set, owner| set | 1 << owner))
 }
 
 /// The transactions in the list; none where one of them is no byte.

@@ -109,8 +109,9 @@ impl PlainDesk {
             (_, Err(_)) => true,
             (&Call::Begin { transaction }, Ok(Reply::Ok)) => transaction < 64 && !live(transaction),
             (&Call::Operate { transaction, .. }, Ok(Reply::Answer { .. })) => live(transaction),
-            (&Call::Operate { transaction, .. }, Ok(Reply::Wait { owner })) => {
-                live(transaction) && live(owner) && owner != transaction
+            (&Call::Operate { transaction, .. }, Ok(Reply::Wait { owners, .. })) => {
+                let mut owners = (0..64).filter(|owner| owners >> owner & 1 == 1);
+                live(transaction) && owners.all(|owner| live(owner) && owner != transaction)
             }
             (&Call::Finish { transaction }, Ok(Reply::Finished)) => live(transaction),
             (&Call::Finish { transaction }, Ok(Reply::Committed { .. })) => {

@@ -10,11 +10,12 @@ const CASCADE: &str = "list with two or more others";
 
 /// Every reply that a script can reach. It can't reach 1, 2 and 4: the program lends a whole book and a whole list, and
 /// every call leaves a sound book.
-pub const ROWS: [&str; 21] = [
+pub const ROWS: [&str; 22] = [
     "ok",
     "answer, code 0",
     "answer, code 1",
-    "wait",
+    "wait for one",
+    "wait for more than one",
     "committed alone",
     "committed with others",
     "finished",
@@ -72,7 +73,8 @@ fn row(printed: &Printed) -> String {
         Printed::Said(Ok(reply), _) => match reply {
             Reply::Ok => "ok".to_string(),
             Reply::Answer { code, .. } => format!("answer, code {code}"),
-            Reply::Wait { .. } => "wait".to_string(),
+            Reply::Wait { count: 1, .. } => "wait for one".to_string(),
+            Reply::Wait { .. } => "wait for more than one".to_string(),
             Reply::Finished => "finished".to_string(),
             Reply::Committed { .. } => format!("committed {company}"),
             Reply::Circle { .. } => format!("circle {company}"),

@@ -53,7 +53,8 @@ impl Numbers {
         match *self {
             _ if self.refusal() != 0 => format!("refused {}", self.refusal()),
             Numbers::Accepted(_) => "ok".to_string(),
-            Numbers::Operated(raw::Operated { code: 0, .. }) => "wait".to_string(),
+            Numbers::Operated(raw::Operated { code: 0, count: 1, .. }) => "wait for one".to_string(),
+            Numbers::Operated(raw::Operated { code: 0, .. }) => "wait for more than one".to_string(),
             Numbers::Operated(raw::Operated { answer, .. }) => format!("answer, code {answer}"),
             Numbers::Ended(raw::Ended { code: 2, .. }) => "finished".to_string(),
             Numbers::Ended(raw::Ended { code: 3, count, .. }) => format!("committed {}", company(count - 1)),
@@ -123,6 +124,9 @@ fn start_of(part: &[u32], store: &[u32]) -> u32 {
     (bytes / std::mem::size_of::<u32>()) as u32
 }
 
+/// What operate replies where it has no number for anything.
+const ZEROS: raw::Operated = raw::Operated { refusal: 0, code: 0, owners: 0, count: 0, answer: 0, value: 0 };
+
 /// The numbers of an outcome, by `include/lending_desk.h`.
 fn written(call: &Call, outcome: Outcome) -> Numbers {
     let refusal = outcome.err().map_or(0, Refusal::number);
@@ -130,9 +134,13 @@ fn written(call: &Call, outcome: Outcome) -> Numbers {
         (Call::SetUp { .. } | Call::Begin { .. }, Ok(Reply::Ok) | Err(_)) => {
             Numbers::Accepted(raw::Accepted { refusal })
         }
-        (Call::Operate { .. }, Ok(Reply::Wait { owner })) => operated([0, 0, owner, 0, 0]),
-        (Call::Operate { .. }, Ok(Reply::Answer { code, value })) => operated([0, 1, 0, code, value]),
-        (Call::Operate { .. }, Err(_)) => operated([refusal, 0, 0, 0, 0]),
+        (Call::Operate { .. }, Ok(Reply::Wait { owners, count })) => {
+            Numbers::Operated(raw::Operated { owners, count, ..ZEROS })
+        }
+        (Call::Operate { .. }, Ok(Reply::Answer { code, value })) => {
+            Numbers::Operated(raw::Operated { code: 1, answer: code, value, ..ZEROS })
+        }
+        (Call::Operate { .. }, Err(_)) => Numbers::Operated(raw::Operated { refusal, ..ZEROS }),
         (Call::Finish { .. }, Ok(Reply::Finished)) => ended(0, 2, 0),
         (Call::Finish { .. }, Ok(Reply::Committed { count })) => ended(0, 3, count),
         (Call::Finish { .. }, Ok(Reply::Circle { count })) => ended(0, 4, count),
@@ -140,10 +148,6 @@ fn written(call: &Call, outcome: Outcome) -> Numbers {
         (Call::Finish { .. } | Call::Cancel { .. }, Err(_)) => ended(refusal, 0, 0),
         (call, Ok(reply)) => panic!("{reply:?} to {call:?}"),
     }
-}
-
-fn operated([refusal, code, owner, answer, value]: [u32; 5]) -> Numbers {
-    Numbers::Operated(raw::Operated { refusal, code, owner, answer, value })
 }
 
 fn ended(refusal: u32, code: u32, count: usize) -> Numbers {

@@ -73,10 +73,10 @@ fn desk_says_the_calls_and_replies_in_twenty_lines() {
     let help = help();
     assert!(help.lines().count() <= 20);
     assert!(help.lines().all(|line| line.chars().count() <= 120));
-    for word in ["S ", "B ", "I ", "F ", "C ", "ok", "answer", "wait", "finished", "committed", "circle", "cancelled"] {
+    for word in ["S ", "B ", "I ", "F ", "C ", "ok", "answer", "finished", "committed", "circle", "cancelled"] {
         assert!(help.contains(word), "{word}");
     }
-    assert!(help.contains("refused") && help.contains("unread"));
+    assert!(help.contains("wait COUNT OWNERS") && help.contains("refused") && help.contains("unread"));
 }
 
 #[test]

@@ -7,6 +7,7 @@ use std::sync::mpsc::{self, Receiver};
 use std::thread;
 use std::time::{Duration, Instant};
 
+use comparison::common::columns;
 use comparison::common::draws::Draws;
 use comparison::difference;
 use comparison::program::{self, take_input, Program};
@@ -15,11 +16,10 @@ use comparison::program::{self, take_input, Program};
 const PATIENCE: Duration = Duration::from_secs(30);
 /// Lines of every letter, some unread, the last one without its line feed.
 const SCRIPT: &[u8] =
-    b"S 1 2 3\nB 0\nB 63\nI 0 0 1 4294967295 0\n\nI 63 0 1 9 0\nI 63 2 7 16777221 3\nX\nF 63\nI 0 2 9 5 0\nF 0\n\
-B 1\nI 1 0 2 0 0\nI 1 0 2 0 0\nI 1 2 9 5 0\nC 1\nB 64";
-const REPLIES: &[u8] =
-    b"ok\nok\nok\nanswer 1 0\nunread\nanswer 1 0\nanswer 1 0\nunread\nfinished\nwait 63\ncommitted 0 63\n\
-ok\nanswer 1 9\nanswer 1 4294967295\nanswer 1 3\ncancelled\nrefused 5\n";
+    b"S 1 2 3\nB 0\nB 63\nI 0 0 1 4294967295 0\n\nI 63 0 1 9 0\nI 63 2 7 16777221 3\nX\nF 63\nI 0 2 9 5 0\nB 1\n\
+I 1 0 2 0 0\nF 0\nI 1 0 2 0 0\nI 1 0 2 0 0\nI 1 2 9 5 0\nC 1\nB 64";
+const REPLIES: &[u8] = b"ok\nok\nok\nanswer 1 0\nunread\nanswer 1 0\nanswer 1 0\nunread\nfinished\nwait 1 63\nok\n\
+wait 2 0 63\ncommitted 0 63\nanswer 1 9\nanswer 1 4294967295\nanswer 1 3\ncancelled\nrefused 5\n";
 
 /// Asserts that both programs, each run as told, print the same and end well.
 fn assert_same(run: impl Fn(&Program) -> Result<Vec<u8>, String>, what: &str) -> Vec<u8> {
@@ -64,6 +64,21 @@ fn inputs_of_hardly_anything() {
     for (input, expected) in cases {
         assert_eq!(desk.run(input).as_deref(), Ok(expected), "{}", input.escape_ascii());
     }
+}
+
+/// The most owners that a wait can have.
+#[test]
+fn each_of_64_waits_for_all_others() {
+    let mut transcript = "S 1  ok\n".to_string();
+    (0..64).for_each(|asking| transcript += &format!("B {asking}  ok\n"));
+    (0..64).for_each(|asking| transcript += &format!("I {asking} 0 1 7 0  answer 1 0\n"));
+    for asking in 0..64 {
+        let others: String = (0..64).filter(|&other| other != asking).map(|other| format!(" {other}")).collect();
+        transcript += &format!("I {asking} 0 2 0 0  wait 63{others}\n");
+    }
+    let (input, expected) = columns(&transcript);
+    let output = assert_same(|program| program.run(input.as_bytes()), "64 on one stack");
+    assert_eq!(String::from_utf8_lossy(&output), expected);
 }
 
 #[test]

@@ -32,9 +32,10 @@ const ANYTHING: [u32; 10] = [0, 15, 16, 17, 63, 64, 65, 255, 1 << 31, u32::MAX];
 /// What the columns of the table of replies count.
 const CALLS: [&str; 6] = ["set up", "begin", "operate", "finish", "cancel", "contents"];
 /// Every reply, and which calls say it, by their places in `CALLS`.
-const REPLIES: [(&str, &[usize]); 25] = [
+const REPLIES: [(&str, &[usize]); 26] = [
     ("ok", &[0, 1]),
-    ("wait", &[2]),
+    ("wait for one", &[2]),
+    ("wait for more than one", &[2]),
     ("answer, code 0", &[2]),
     ("answer, code 1", &[2]),
     ("finished", &[3]),
@@ -386,8 +387,24 @@ fn every_reply_to_every_call_occurs_often() {
     }
 }
 
+/// The second implementation with a change to what it replies to operations; the change is told who asks, as a set.
+fn with_operated(
+    call: &AnyCall,
+    store: &mut [u32],
+    list: &mut [u8],
+    change: impl Fn(&mut raw::Operated, u64),
+) -> Served {
+    let mut served = second(call, store, list);
+    if let (Numbers::Operated(operated), AnyCall::Lettered(Call::Operate { transaction, .. })) =
+        (&mut served.numbers, call)
+    {
+        change(operated, 1 << (transaction % 64));
+    }
+    served
+}
+
 /// The second implementation, but for one thing.
-const WRONG_DESKS: [(&str, Desk); 9] = [
+const WRONG_DESKS: [(&str, Desk); 14] = [
     ("writes a byte past the count", |call, store, list| {
         let served = second(call, store, list);
         if let Numbers::Ended(raw::Ended { refusal: 0, count, .. }) = served.numbers {
@@ -432,13 +449,30 @@ const WRONG_DESKS: [(&str, Desk); 9] = [
         served
     }),
     ("names an owner where it answers", |call, store, list| {
-        let mut served = second(call, store, list);
-        if let (Numbers::Operated(operated), AnyCall::Lettered(Call::Operate { transaction, .. })) =
-            (&mut served.numbers, call)
-        {
-            operated.owner = if operated.code == 1 { *transaction } else { operated.owner };
-        }
-        served
+        with_operated(call, store, list, |operated, own| operated.owners |= u64::from(operated.code) * own)
+    }),
+    ("counts an owner where it answers", |call, store, list| {
+        with_operated(call, store, list, |operated, _| operated.count += operated.code)
+    }),
+    ("names the lowest owner alone", |call, store, list| {
+        with_operated(call, store, list, |operated, _| {
+            operated.owners &= operated.owners.wrapping_neg();
+            operated.count = operated.count.min(1);
+        })
+    }),
+    ("names the one that asks among the owners", |call, store, list| {
+        with_operated(call, store, list, |operated, own| {
+            if operated.count > 0 {
+                operated.owners |= own;
+                operated.count += 1;
+            }
+        })
+    }),
+    ("counts one owner of more", |call, store, list| {
+        with_operated(call, store, list, |operated, _| operated.count = operated.count.min(1))
+    }),
+    ("has 32 bits for owners", |call, store, list| {
+        with_operated(call, store, list, |operated, _| operated.owners &= u64::from(u32::MAX))
     }),
     ("has a start where contents is refused", |call, store, list| {
         let mut served = second(call, store, list);

@@ -23,6 +23,13 @@ impl Case {
         Case { script: Script { lines, open_end: false }, replies }
     }
 
+    /// The case with another reply to one of its lines.
+    fn with(mut self, line: usize, from: &str, to: &str) -> Self {
+        assert_eq!(self.replies[line], from);
+        self.replies[line] = to.to_string();
+        self
+    }
+
     fn output(&self) -> Vec<u8> {
         self.replies.iter().flat_map(|reply| [reply.as_bytes(), b"\n"].concat()).collect()
     }
@@ -70,17 +77,30 @@ fn chain() -> Case {
     )
 }
 
-/// The chain with another reply to one of its lines.
-fn chain_with(line: usize, from: &str, to: &str) -> Case {
-    let mut case = chain();
-    assert_eq!(case.replies[line], from);
-    case.replies[line] = to.to_string();
-    case
+/// Two have inserted a key, one of them twice; a third, who has too, asks for it and waits for both.
+fn crowd() -> Case {
+    Case::of(
+        "S 2             ok
+         B 5             ok
+         B 3             ok
+         B 4             ok
+         I 5 0 4 7 0     answer 1 0
+         I 4 0 4 7 0     answer 1 0
+         I 3 0 4 7 0     answer 1 0
+         I 5 0 4 7 0     answer 1 0
+         I 4 0 6 7 0     wait 2 3 5",
+    )
+}
+
+/// The crowd with another reply to the one that waits.
+fn crowd_with(to: &str) -> Case {
+    crowd().with(8, "wait 2 3 5", to)
 }
 
 #[test]
 fn right_output_passes() {
     chain().assert_right();
+    crowd().assert_right();
 }
 
 #[test]
@@ -91,8 +111,9 @@ fn changed_replies_are_noticed() {
         (1, "ok", "refused 3"),
         (4, "answer 1 0", "answer 1 7"),
         (4, "answer 1 0", "answer 0 0"),
-        (4, "answer 1 0", "wait 5"),
-        (4, "answer 1 0", "wait 9"),
+        (4, "answer 1 0", "wait 1 5"),
+        (4, "answer 1 0", "wait 1 9"),
+        (4, "answer 1 0", "wait 2 3 9"),
         (4, "answer 1 0", "ok"),
         (7, "finished", "committed 3"),
         (7, "finished", "circle"),
@@ -110,17 +131,20 @@ fn changed_replies_are_noticed() {
         (14, "committed 0", "cancelled"),
         (14, "committed 0", "refused 4"),
     ] {
-        chain_with(line, from, to).assert_noticed_by_both(&format!("line {line}: {to} and not {from}"));
+        chain().with(line, from, to).assert_noticed_by_both(&format!("line {line}: {to} and not {from}"));
     }
 }
 
 #[test]
 fn replies_not_to_the_letter_are_noticed() {
     for to in ["committed 5 3 04", "committed 5 3 4 ", "committed  5 3 4", "Committed 5 3 4", "committed 5 3 +4", ""] {
-        chain_with(9, "committed 5 3 4", to).assert_noticed_by_both(to);
+        chain().with(9, "committed 5 3 4", to).assert_noticed_by_both(to);
     }
     for to in ["answer 1", "answer 1 0 0", "answer 1 4294967296", "answer 2 0", "refused 0", "refused 12", "ok\r"] {
-        chain_with(4, "answer 1 0", to).assert_noticed_by_both(to);
+        chain().with(4, "answer 1 0", to).assert_noticed_by_both(to);
+    }
+    for to in ["wait", "wait 2", "wait 2 3", "wait 2 3 3", "wait 2 3 64", "wait 2 3 05", "wait 2 3 5 ", "wait +2 3 5"] {
+        crowd_with(to).assert_noticed_by_both(to);
     }
 }
 
@@ -264,4 +288,37 @@ fn desk_that_commits_by_number_is_noticed_by_comparison() {
     );
     assert_eq!(case.difference(), Some(10));
     assert_eq!(case.broken(), None);
+}
+
+// What a desk would print that does not name all whom an operation waits for, and them alone.
+
+/// Demand 3 lets it through: who waits changes nothing, whomever it waits for.
+#[test]
+fn desk_that_names_one_owner_alone_is_noticed_by_comparison() {
+    for to in ["wait 1 5", "wait 1 3"] {
+        let case = crowd_with(to);
+        assert_eq!(case.difference(), Some(8));
+        assert_eq!(case.broken(), None);
+    }
+}
+
+#[test]
+fn desk_that_names_the_one_that_asks_is_noticed() {
+    crowd_with("wait 3 3 4 5").assert_noticed_by_both("4 should not wait for itself");
+}
+
+#[test]
+fn desk_that_counts_entries_and_not_owners_is_noticed() {
+    crowd_with("wait 3 3 5").assert_noticed_by_both("5 has two entries");
+    crowd_with("wait 3 3 5 5").assert_noticed_by_both("5 has two entries");
+}
+
+#[test]
+fn desk_that_names_owners_in_another_order_is_noticed() {
+    crowd_with("wait 2 5 3").assert_noticed_by_both("3 should stand before 5");
+}
+
+#[test]
+fn desk_that_waits_for_nobody_is_noticed() {
+    crowd_with("wait 0").assert_noticed_by_both("4 should wait for 3 and 5");
 }

@@ -6,7 +6,7 @@ use crate::log::{self, Entry};
 use crate::operations::{Answer, Kind, Operation, Request};
 use crate::rules::RECOVERABLE;
 use crate::soundness::{Analysis, Replays};
-use crate::transactions::{only, Status};
+use crate::transactions::{only, Status, TransactionSet};
 use crate::{Outcome, Refusal, Reply};
 
 /// Writes an empty store over any contents.
@@ -34,7 +34,7 @@ pub fn begin(store: &mut [u32], transaction: u32) -> Outcome {
     Ok(Reply::Ok)
 }
 
-/// Answers an operation and enters it in the log, unless it must wait for another transaction to end.
+/// Answers an operation and enters it in the log, unless it must wait for other transactions to end.
 pub fn operate(store: &mut [u32], transaction: u32, object: u32, operation: u32, key: u32, value: u32) -> Outcome {
     let store = sized_mut(store)?;
     let mut replays = Replays::none();
@@ -51,8 +51,9 @@ pub fn operate(store: &mut [u32], transaction: u32, object: u32, operation: u32,
         return Err(Refusal::RowsFull);
     }
     let request = Request::new(operation, key, value);
-    if let Some(owner) = first_conflict(store, transaction, object, request) {
-        return Ok(Reply::Wait { owner: owner as u32 });
+    let owners = conflicting_owners(store, transaction, object, request);
+    if owners != 0 {
+        return Ok(Reply::Wait { owners, count: owners.count_ones() });
     }
     let answer = replay.run(request);
     log::push(store, &Entry { transaction, object, request, answer });
@@ -136,12 +137,12 @@ fn object_with_kind(store: &Words, object: u32) -> Result<(usize, Kind), Refusal
     Kind::from_number(number).map(|kind| (object, kind)).ok_or(Refusal::Object)
 }
 
-/// The owner of the earliest entry of another transaction on the object that the request isn't recoverable against.
-fn first_conflict(store: &Words, transaction: usize, object: usize, request: Request) -> Option<usize> {
+/// The owners of all entries of other transactions on the object that the request isn't recoverable against.
+fn conflicting_owners(store: &Words, transaction: usize, object: usize, request: Request) -> TransactionSet {
     log::entries_on(store, object)
         .filter(|entry| entry.transaction != transaction)
-        .find(|Entry { request: logged, .. }| {
+        .filter(|Entry { request: logged, .. }| {
             !RECOVERABLE.allow((request.operation, request.key), (logged.operation, logged.key))
         })
-        .map(|entry| entry.transaction)
+        .fold(0, |owners, entry| owners | only(entry.transaction))
 }

@@ -24,7 +24,7 @@ impl Refusal {
     }
 }
 
-/// What a call that is not refused says. The counts are of the transactions at the front of the list.
+/// What a call that is not refused says. Counts, but for a wait's, are of the transactions at the front of the list.
 #[derive(Clone, Copy, Debug, PartialEq, Eq)]
 pub enum Reply {
     /// Set up and begin.
@@ -33,8 +33,10 @@ pub enum Reply {
         code: u32,
         value: u32,
     },
+    /// Told to wait: the owners of the entries that force it, one bit each, and their number.
     Wait {
-        owner: u32,
+        owners: u64,
+        count: u32,
     },
     /// Pseudo-committed: it still depends on others.
     Finished,

@@ -4,6 +4,7 @@ use std::io::{self, BufWriter, ErrorKind, Read, Write};
 
 use crate::call::Call;
 use crate::layout::{OBJECTS, TRANSACTIONS, WORDS};
+use crate::transactions::{members, TransactionSet};
 use crate::{Outcome, Reply};
 
 /// Bytes read or written at once.
@@ -162,7 +163,7 @@ fn print(output: &mut impl Write, outcome: Outcome, list: &[u8]) -> io::Result<(
     let (word, count) = match outcome {
         Err(refusal) => return writeln!(output, "refused {}", refusal.number()),
         Ok(Reply::Answer { code, value }) => return writeln!(output, "answer {code} {value}"),
-        Ok(Reply::Wait { owner }) => return writeln!(output, "wait {owner}"),
+        Ok(Reply::Wait { owners, count }) => return print_wait(output, owners, count),
         Ok(Reply::Ok) => ("ok", 0),
         Ok(Reply::Finished) => ("finished", 0),
         Ok(Reply::Committed { count }) => ("committed", count),
@@ -173,5 +174,12 @@ fn print(output: &mut impl Write, outcome: Outcome, list: &[u8]) -> io::Result<(
     for transaction in &list[..count] {
         write!(output, " {transaction}")?;
     }
+    output.write_all(b"\n")
+}
+
+/// Prints a wait with the number of owners, then the owners ascending.
+fn print_wait(output: &mut impl Write, owners: TransactionSet, count: u32) -> io::Result<()> {
+    write!(output, "wait {count}")?;
+    members(owners).try_for_each(|owner| write!(output, " {owner}"))?;
     output.write_all(b"\n")
 }

@@ -4,7 +4,7 @@ mod common;
 
 use common::{assert_same_words, row_word, Entry, Scheduler, Store, BLANK, UNREDUCED, WORDS};
 use reference::calls::{self, contents, contents_count};
-use reference::{Refusal, Reply};
+use reference::{Outcome, Refusal, Reply};
 
 const STACK: usize = 0;
 const SET: usize = 1;
@@ -499,31 +499,94 @@ fn own_entries_do_not_hide_those_of_others() {
         "B 1          ok
          I 0 0 1 7 0  answer 1 0
          I 1 0 1 8 0  answer 1 0
-         I 1 0 2 0 0  wait 0",
+         I 1 0 2 0 0  wait 1 0",
     );
 }
 
+/// In the log the owners neither ascend nor descend; 0 has inserted another key, and the same key elsewhere.
 #[test]
-fn wait_names_the_owner_of_the_earliest_entry_in_conflict() {
+fn wait_names_all_owners_of_entries_in_conflict() {
     let mut scheduler = scheduler();
     scheduler.follow(
         "B 0          ok
          B 1          ok
          B 2          ok
          B 3          ok
+         B 5          ok
          I 0 1 6 6 0  answer 0 0
          I 2 1 4 4 0  answer 1 0
+         I 5 1 4 4 0  answer 1 0
          I 1 1 4 4 0  answer 1 0
-         I 0 1 4 5 0  answer 1 0",
+         I 0 1 4 5 0  answer 1 0
+         I 0 2 7 4 0  answer 1 0",
     );
     let before = scheduler.store.clone();
-    scheduler.follow("I 3 1 5 4 0  wait 2");
+    scheduler.follow("I 3 1 5 4 0  wait 3 1 2 5");
     assert_same_words(&scheduler.store, &before);
     scheduler.follow(
         "F 2          committed 2
-         I 3 1 5 4 0  wait 1
+         I 3 1 5 4 0  wait 2 1 5
          C 1          cancelled
+         I 3 1 5 4 0  wait 1 5
+         F 5          committed 5
          I 3 1 5 4 0  answer 1 0",
+    );
+}
+
+/// All touch the table, and each request is recoverable against entries of some.
+#[test]
+fn wait_names_owners_of_entries_in_conflict_alone() {
+    begun().follow(
+        "B 1           ok
+         B 2           ok
+         B 3           ok
+         B 4           ok
+         I 0 2 9 5 0   answer 0 0
+         I 1 2 11 5 1  answer 0 0
+         I 2 2 7 6 60  answer 1 0
+         I 3 2 8 7 0   answer 0 0
+         I 4 2 10 0 0  wait 2 2 3
+         I 4 2 9 5 0   wait 1 1
+         I 4 2 9 6 0   wait 1 2
+         I 4 2 7 7 70  wait 1 3
+         I 4 2 7 5 50  answer 1 0
+         I 0 2 10 0 0  wait 3 2 3 4
+         I 0 2 9 5 0   wait 2 1 4",
+    );
+}
+
+#[test]
+fn wait_counts_owners_and_not_entries() {
+    begun().follow(
+        "B 1          ok
+         B 2          ok
+         I 0 1 4 4 0  answer 1 0
+         I 0 1 4 4 0  answer 1 0
+         I 0 1 5 4 0  answer 1 0
+         I 2 1 6 4 0  wait 1 0
+         I 1 1 4 4 0  answer 1 0
+         I 1 1 4 4 0  answer 1 0
+         I 0 1 4 4 0  answer 1 0
+         I 2 1 6 4 0  wait 2 0 1",
+    );
+}
+
+#[test]
+fn wait_never_names_the_transaction_itself() {
+    begun().follow(
+        "B 1          ok
+         B 2          ok
+         I 1 0 1 5 0  answer 1 0
+         I 0 0 1 6 0  answer 1 0
+         I 1 0 1 7 0  answer 1 0
+         I 2 0 1 8 0  answer 1 0
+         I 1 0 1 9 0  answer 1 0
+         I 0 0 2 0 0  wait 2 1 2
+         I 1 0 2 0 0  wait 2 0 2
+         I 2 0 3 0 0  wait 2 0 1
+         C 0          cancelled
+         C 2          cancelled
+         I 1 0 2 0 0  answer 1 9",
     );
 }
 
@@ -536,8 +599,69 @@ fn wait_is_for_pseudo_committed_ones_too() {
          I 1 0 1 8 0  answer 1 0
          I 1 1 4 4 0  answer 1 0
          F 1          finished
-         I 2 1 6 4 0  wait 1",
+         I 2 1 6 4 0  wait 1 1
+         I 2 0 3 0 0  wait 2 0 1
+         F 0          committed 0 1
+         I 2 0 3 0 0  answer 1 8",
     );
+}
+
+/// Between the two stand entries of a third that the request is recoverable against, as many as the log takes.
+#[test]
+fn wait_is_for_the_owners_of_the_oldest_and_the_newest_entry() {
+    let others = "I 0 1 6 5 0  answer 0 0\n".repeat(253);
+    begun().follow(&format!(
+        "B 1          ok
+         B 2          ok
+         B 3          ok
+         I 2 1 4 4 0  answer 1 0
+         {others}
+         I 1 1 4 4 0  answer 1 0
+         I 3 1 6 4 0  wait 2 1 2
+         C 1          cancelled
+         C 2          cancelled
+         I 3 1 6 4 0  answer 0 0",
+    ));
+}
+
+/// What a scheduler says to a transaction that asks whether key 4 is a member of the set.
+fn said_to_member_4(scheduler: &mut Scheduler, transaction: u32) -> Outcome {
+    calls::operate(&mut scheduler.store, transaction, SET as u32, 6, 4, 0)
+}
+
+#[test]
+fn wait_has_a_bit_for_each_owner() {
+    for owner in 0..64 {
+        let other = (owner + 1) % 64;
+        let store = empty().active(&[owner, other]).log(&[[owner as u32, SET as u32, 4, 4, 0, 1, 0]]);
+        let reply = said_to_member_4(&mut Scheduler::on(store), other as u32);
+        assert_eq!(reply, Ok(Reply::Wait { owners: 1 << owner, count: 1 }), "owner {owner}");
+    }
+}
+
+#[test]
+fn wait_is_for_all_63_others_at_once() {
+    let mut scheduler = scheduler();
+    for transaction in 0..64 {
+        scheduler.follow(&format!("B {transaction}  ok\n I {transaction} 1 4 4 0  answer 1 0"));
+    }
+    for transaction in 0..64 {
+        let reply = said_to_member_4(&mut scheduler, transaction);
+        assert_eq!(reply, Ok(Reply::Wait { owners: !(1 << transaction), count: 63 }), "transaction {transaction}");
+    }
+}
+
+#[test]
+fn wait_is_for_63_pseudo_committed_ones_at_once() {
+    let mut scheduler = scheduler();
+    for transaction in 0..64 {
+        scheduler.follow(&format!("B {transaction}  ok\n I {transaction} 0 1 7 0  answer 1 0"));
+    }
+    for transaction in 1..64 {
+        scheduler.follow(&format!("F {transaction}  finished"));
+    }
+    let reply = calls::operate(&mut scheduler.store, 0, STACK as u32, 2, 0, 0);
+    assert_eq!(reply, Ok(Reply::Wait { owners: !1, count: 63 }));
 }
 
 #[test]
@@ -546,7 +670,7 @@ fn wait_ends_with_the_owner() {
         "B 1           ok
          I 0 2 7 5 50  answer 1 0
          I 1 2 7 6 60  answer 1 0
-         I 0 2 7 6 61  wait 1
+         I 0 2 7 6 61  wait 1 1
          F 1           committed 1
          I 0 2 7 6 61  answer 0 0
          I 0 2 10 0 0  answer 1 2",
@@ -561,9 +685,9 @@ fn modifies_of_one_key_commit_in_the_order_entered() {
          B 1            ok
          I 0 2 11 5 51  answer 1 0
          I 1 2 11 5 52  answer 1 0
-         I 1 2 9 5 0    wait 0
+         I 1 2 9 5 0    wait 1 0
          F 1            finished
-         I 0 2 9 5 0    wait 1
+         I 0 2 9 5 0    wait 1 1
          F 0            committed 0 1",
     );
     scheduler.assert_store(&empty().rows(TABLE, &[[5, 52]]));

@@ -143,9 +143,12 @@ const SETS_DRAWN: usize = 16;
 
 const CIRCLE_WITH_COMMITS: &str = "circle that commits others";
 const CASCADE: &str = "two or more others committed";
+const WAIT_FOR_SEVERAL: &str = "wait for two or more";
+const WAIT_FOR_PSEUDO_COMMITTED: &str = "wait for a pseudo-committed one";
+const WAIT_FOR_TRANSACTION_63: &str = "wait for transaction 63";
 
 /// The rows of the table that the run prints; each must occur often enough.
-const ROWS: [&str; 20] = [
+const ROWS: [&str; 23] = [
     "ok",
     "answer",
     "wait",
@@ -166,6 +169,9 @@ const ROWS: [&str; 20] = [
     "refused 11",
     CIRCLE_WITH_COMMITS,
     CASCADE,
+    WAIT_FOR_SEVERAL,
+    WAIT_FOR_PSEUDO_COMMITTED,
+    WAIT_FOR_TRANSACTION_63,
 ];
 const FIRST_REFUSAL_ROW: usize = 7;
 const OFTEN_ENOUGH: u64 = 100;
@@ -291,6 +297,7 @@ impl Run<'_> {
 
         let outcome = serve_checked(&call, &mut self.store, &mut list);
         self.tally.count(outcome);
+        self.count_owners(outcome);
         let listed = &list[..listed_count(outcome)];
         let mut transactions = listed.iter().copied().map(u32::from);
         assert!(transactions.all(|transaction| self.history.live().contains(&transaction)), "not live: {listed:?}");
@@ -300,6 +307,16 @@ impl Run<'_> {
             self.trail.calls.pop(); // what was checked before holds of the same store and history still
         } else {
             self.check();
+        }
+    }
+
+    /// Counts what is told of the owners that a wait names.
+    fn count_owners(&mut self, outcome: Outcome) {
+        if let Ok(Reply::Wait { owners, count }) = outcome {
+            let named = |&transaction: &u32| owners >> transaction & 1 == 1;
+            self.tally.add(WAIT_FOR_SEVERAL, u64::from(count >= 2));
+            self.tally.add(WAIT_FOR_PSEUDO_COMMITTED, u64::from(self.finished.iter().any(named)));
+            self.tally.add(WAIT_FOR_TRANSACTION_63, u64::from(named(&63)));
         }
     }
 

@@ -17,7 +17,9 @@ fn outcome_of(reply: &str) -> (Outcome, Vec<u8>) {
     let outcome = match (word, &numbers[..]) {
         ("ok", []) => Ok(Reply::Ok),
         ("answer", &[code, value]) => Ok(Reply::Answer { code, value }),
-        ("wait", &[owner]) => Ok(Reply::Wait { owner }),
+        ("wait", &[count, ref owners @ ..]) => {
+            Ok(Reply::Wait { owners: owners.iter().fold(0, |set, owner| set | 1 << owner), count })
+        }
         ("finished", []) => Ok(Reply::Finished),
         ("committed", _) => Ok(Reply::Committed { count }),
         ("circle", _) => Ok(Reply::Circle { count }),
@@ -191,7 +193,8 @@ fn waits_refusals_and_finishing_change_nothing() {
         "S 1          ok
          B 0          ok
          B 1          refused 7
-         I 0 0 1 7 0  wait 1
+         I 0 0 1 7 0  wait 1 1
+         I 0 0 2 0 0  wait 3 1 2 63
          I 0 0 1 7 0  refused 7
          S 2          refused 7
          C 0          refused 7

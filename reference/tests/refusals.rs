@@ -248,7 +248,7 @@ fn contents_refused_is_empty_though_there_are_rows() {
 #[test]
 fn wait_is_decided_after_refusal_10() {
     let mut scheduler = scheduler();
-    scheduler.follow("B 2  ok\n I 0 0 1 7 0  answer 1 0\n I 2 0 2 0 0  wait 0");
+    scheduler.follow("B 2  ok\n I 0 0 1 7 0  answer 1 0\n I 2 0 2 0 0  wait 1 0");
     scheduler.fill_log(0, 0);
     scheduler.follow("I 2 0 2 0 0  refused 10");
 }
@@ -256,9 +256,9 @@ fn wait_is_decided_after_refusal_10() {
 #[test]
 fn wait_is_decided_after_refusal_11() {
     let mut scheduler = scheduler();
-    scheduler.follow("B 2  ok\n I 0 2 7 5 1  answer 1 0\n I 2 2 7 5 2  wait 0");
+    scheduler.follow("B 2  ok\n I 0 2 7 5 1  answer 1 0\n I 2 2 7 5 2  wait 1 0");
     scheduler.fill_object(0, 2);
-    scheduler.follow("I 2 2 7 5 2  refused 11\n I 2 2 9 5 0  wait 0");
+    scheduler.follow("I 2 2 7 5 2  refused 11\n I 2 2 9 5 0  wait 1 0");
 }
 
 #[test]

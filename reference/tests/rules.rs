@@ -135,8 +135,8 @@ fn calls_wait_and_depend_as_listed() {
         scheduler.follow("B 0  ok\n B 1  ok");
         scheduler.say(&format!("I 0 0 {} {} 0", logged.0, logged.1));
         let reply = scheduler.say(&format!("I 1 0 {} {} 0", requested.0, requested.1 + mark));
-        let expected = if recoverable { "answer " } else { "wait 0" };
-        assert!(reply.starts_with(expected), "{requested:?} against {logged:?}: {reply}");
+        let as_listed = if recoverable { reply.starts_with("answer ") } else { reply == "wait 1 0" };
+        assert!(as_listed, "{requested:?} against {logged:?}: {reply}");
         let expected = if recoverable && !commuting { "finished" } else { "committed 1" };
         assert_eq!(scheduler.say("F 1"), expected, "{requested:?} after {logged:?}");
     }

@@ -79,7 +79,7 @@ fn p8_size_against_modify_and_insert() {
          I 0 0 11 5 1    answer 0 0
          I 1 0 10 0 0    answer 1 0
          I 0 0 7 6 1     answer 1 0
-         I 1 0 10 0 0    wait 0",
+         I 1 0 10 0 0    wait 1 0",
     );
 }
 
@@ -93,7 +93,7 @@ fn p9_lookup_against_modify() {
          B 1             ok
          I 0 0 11 6 1    answer 0 0
          I 1 0 9 5 0     answer 0 0
-         I 1 0 9 6 0     wait 0",
+         I 1 0 9 6 0     wait 1 0",
     );
 }
 

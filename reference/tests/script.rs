@@ -189,6 +189,38 @@ fn lists_stand_after_their_words_without_spaces_to_spare() {
 }
 
 #[test]
+fn wait_prints_the_number_of_owners_and_then_the_owners_ascending() {
+    assert_printed(
+        "S 2            ok
+         B 3            ok
+         B 9            ok
+         B 17           ok
+         B 63           ok
+         I 17 0 4 4 0   answer 1 0
+         I 17 0 4 4 0   answer 1 0
+         I 9 0 6 4 0    wait 1 17
+         I 63 0 4 4 0   answer 1 0
+         I 3 0 4 4 0    answer 1 0
+         I 9 0 4 4 0    answer 1 0
+         I 9 0 6 4 0    wait 3 3 17 63
+         I 63 0 6 4 0   wait 3 3 9 17
+         C 63           cancelled
+         I 9 0 6 4 0    wait 2 3 17",
+    );
+}
+
+#[test]
+fn wait_prints_all_63_others() {
+    let inserts: String = (0..64).rev().map(|t| format!("B {t}\nI {t} 0 4 4 0\n")).collect();
+    for transaction in [0, 1, 31, 32, 62, 63] {
+        let output = printed(format!("S 2\n{inserts}I {transaction} 0 6 4 0").as_bytes());
+        let others = (0..64).filter(|&other| other != transaction);
+        let expected = others.fold("wait 63".to_string(), |line, other| format!("{line} {other}"));
+        assert_eq!(output.lines().last(), Some(&expected[..]));
+    }
+}
+
+#[test]
 fn long_lines_are_one_line_each() {
     let megabytes = |byte: u8| vec![byte; 3 << 20];
     for long in [

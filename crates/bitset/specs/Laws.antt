@@ -1,21 +1,25 @@
 -- The members of the sets that a shift, `|`, `&` and `!` make, the test of one bit, and the lowest member; sets by
--- their members.
-use mathlib.Core.Path.{_≡_, refl, sym, ap, _∙_}
+-- their members, by predicates that tell them, and one by one.
+use mathlib.Core.Path.{_≡_, refl, sym, ap, ap₂, _∙_}
+use mathlib.Core.List.{List, _∷_}
 use mathlib.Core.Bool.{Bool, true, false, cond, not, _&&_, _||_, true≢false, false≢true, and-eq-true-iff}
-use mathlib.Core.Logic.{_↔_, _⊎_, inl, inr, ⊎-elim}
-use Prim.Native.Nat.{ℕ, zero, suc, _-_, _*_, _/_, _%_, _^_, _<_, _≤_}
+use mathlib.Core.Bool.{and-true, and-false}
+use mathlib.Core.Logic.{_↔_, _⊎_, inl, inr, ⊎-elim, Iff·trans, Iff·symm}
+use Prim.Native.Nat.{ℕ, zero, suc, _+_, _-_, _*_, _/_, _%_, _^_, _<_, _≤_}
 use native.Mathlib.Nat.{zero-lt-suc, not-suc-le-zero, lt-of-not-le, lt-of-lt-of-le, mod-lt, mod-eq-of-lt, one-mul}
-use native.Mathlib.Nat.{pow-suc, div-one, zero-div, div-eq-of-lt, mul-mod-left, mul-div-mul-right}
-use native.Mathlib.Numerals.{one-add}
+use native.Mathlib.Nat.{eq-or-lt-of-le, pow-suc, div-one, zero-div, div-eq-of-lt, mul-mod-left, mul-div-mul-right}
+use native.Mathlib.Numerals.{one-add, add-one}
 use native.Mathlib.Omega.{arith}
-use borrow.Author.Tests.{eqb-true, eqb-false, ne-eqb, not-true}
+use borrow.Author.Tests.{eqb-true, eqb-false, eq-eqb, ne-eqb, not-true}
 use lib.Arith.{bin-ind, lt-one}
 use lib.Bits.{bitAnd, bitOr, bitXor, and-shr, or-shr, xor-shr, and-mod, or-mod, xor-mod, and-mask, and-comm, and-le-r}
 use lib.Bits.{xor-add-and}
-use lib.Count.{trailingZeros, under}
+use lib.Count.{trailingZeros, under, ones, ones-step, ones-ones}
 use lib.Dec.{eqb, eqb·zero-suc, eqb·suc-zero, eqb·suc-suc}
+use lib.ListN.{length}
 use lib.Pow.{pow-mono, pow-lt, shr-shr}
-use Rattle.bitset.specs.Bitset.{has, Members, In, Lowest}
+use Rattle.bitset.specs.Bitset.{has, Members, Holds, In, Lowest, including, inFront, membersFrom, members}
+use Rattle.bitset.specs.Bitset.{size}
 
 power : (t : ℕ) → Members (2 ^ t) (λ h. eqb h t)
 unfolding has
@@ -40,12 +44,12 @@ module _ (op : ℕ → ℕ → ℕ) (g : Bool → Bool → Bool) where
   Agree x y = eqb (op x y) 1 ≡ g (eqb x 1) (eqb y 1)
 
   -- An operation that works on each bit apart, and there as g, is g on membership.
-  members : ((a b k : ℕ) → op a b / 2 ^ k ≡ op (a / 2 ^ k) (b / 2 ^ k))
+  on-bits : ((a b k : ℕ) → op a b / 2 ^ k ≡ op (a / 2 ^ k) (b / 2 ^ k))
       → ((a b k : ℕ) → op a b % 2 ^ k ≡ op (a % 2 ^ k) (b % 2 ^ k))
       → Agree 0 0 × Agree 0 1 × Agree 1 0 × Agree 1 1
       → (a b : ℕ) → Members (op a b) (λ h. g (has a h) (has b h))
   unfolding has
-  members shr low (p, q, r, s) a b h =
+  on-bits shr low (p, q, r, s) a b h =
       let x = a / 2 ^ h in
       let y = b / 2 ^ h in
       ap (λ (n : ℕ). eqb (n % 2) 1) (shr a b h) ∙ ap (λ (n : ℕ). eqb n 1) (low x y 1)
@@ -53,10 +57,10 @@ module _ (op : ℕ → ℕ → ℕ) (g : Bool → Bool → Bool) where
       (x % 2) (mod-lt x (zero-lt-suc 1)) (y % 2) (mod-lt y (zero-lt-suc 1))
 
 pub joined : (a b : ℕ) → Members (bitOr a b) (λ h. has a h || has b h)
-joined = members bitOr (λ p q. p || q) or-shr or-mod (refl, refl, refl, refl)
+joined = on-bits bitOr (λ p q. p || q) or-shr or-mod (refl, refl, refl, refl)
 
 pub met : (a b : ℕ) → Members (bitAnd a b) (λ h. has a h && has b h)
-met = members bitAnd (λ p q. p && q) and-shr and-mod (refl, refl, refl, refl)
+met = on-bits bitAnd (λ p q. p && q) and-shr and-mod (refl, refl, refl, refl)
 
 pub tested : (s h : ℕ) → eqb (bitAnd (s / 2 ^ h) 1) 1 ≡ has s h
 unfolding has
@@ -87,10 +91,6 @@ no-members =
     let u : s / 2 ≡ 0 = upper (λ h. half s h ∙ none (suc h)) in
     let odd : s % 2 ≡ 1 → ⊥ = eqb-false (s % 2) 1 (sym (first s) ∙ none 0) in
     omega arith)
-
--- Only the set 0 has no members.
-pub empty : (s : ℕ) → (s ≡ 0) ↔ Members s (λ h. false)
-empty s = (λ e h. ap (λ (n : ℕ). has n h) e ∙ no-member h, no-members s)
 
 bit-same : (x : ℕ) → x < 2 → (y : ℕ) → y < 2 → eqb x 1 ≡ eqb y 1 → x ≡ y
 bit-same =
@@ -123,7 +123,7 @@ implied true q f = f refl
 implied false q f = refl
 
 -- A part that lacks a member is less as a number.
-pub part-less : (a b h : ℕ) → ((k : ℕ) → has a k ≡ true → has b k ≡ true) → has a h ≡ false → has b h ≡ true → a < b
+part-less : (a b h : ℕ) → ((k : ℕ) → has a k ≡ true → has b k ≡ true) → has a h ≡ false → has b h ≡ true → a < b
 part-less a b h part lacks member =
     let meet : bitAnd a b ≡ a = same-members (bitAnd a b) a (λ k. met a b k ∙ implied (has a k) (has b k) (part k)) in
     let other : a ≡ b → ⊥ = λ (e : a ≡ b). true≢false (sym member ∙ ap (λ (s : ℕ). has s h) (sym e) ∙ lacks) in
@@ -132,7 +132,7 @@ part-less a b h part lacks member =
 -- ---- The set without one, and the lowest member
 
 differing : (a b : ℕ) → Members (bitXor a b) (λ h. cond (has a h) (not (has b h)) (has b h))
-differing = members bitXor (λ p q. cond p (not q) q) xor-shr xor-mod (refl, refl, refl, refl)
+differing = on-bits bitXor (λ p q. cond p (not q) q) xor-shr xor-mod (refl, refl, refl, refl)
 
 -- What is left of a set when a part of it is taken out, as `!` takes it out of all.
 difference : (m x : ℕ) → bitAnd m x ≡ x → m - x ≡ bitXor m x
@@ -211,3 +211,120 @@ in-rest r s t rest h = (
       (both .0, eqb-false h t (not-true (eqb h t) (both .1))),
   λ m. rest h ∙ and-eq-true-iff (has s h) (not (eqb h t)) .1 (m .0, ap not (ne-eqb h t (m .1))),
 )
+
+-- ---- Sets by the predicates that tell their members
+
+pub included : (h s : ℕ) → Members (including h s) (λ u. eqb u h || has s u)
+included h s u = joined (2 ^ h) s u ∙ ap (λ (b : Bool). b || has s u) (power h u)
+
+same-truth : (p q : Bool) → (p ≡ true) ↔ (q ≡ true) → p ≡ q
+same-truth true q h = sym (h .0 refl)
+same-truth false true h = h .1 refl
+same-truth false false h = refl
+
+pub holds-unique : (a b : ℕ) (P : ℕ → Type 0) → Holds a P → Holds b P → a ≡ b
+holds-unique a b P p q = same-members a b (λ h. same-truth (has a h) (has b h) (Iff·trans (p h) (Iff·symm (q h))))
+
+pub holds-none : (P : ℕ → Type 0) → ((b : ℕ) → P b → ⊥) → Holds 0 P
+holds-none P none b = (λ e. absurd (nobody-in 0 b refl e), λ p. absurd (none b p))
+
+pub holds-same : (P Q : ℕ → Type 0) (s : ℕ) → Holds s P → ((b : ℕ) → P b ↔ Q b) → Holds s Q
+holds-same P Q s p e b = (λ h. e b .0 (p b .0 h), λ q. p b .1 (e b .1 q))
+
+pub holds-join : (P Q : ℕ → Type 0) (s t u : ℕ) → Holds s P → Holds t Q → Members u (λ b. has s b || has t b)
+    → Holds u (λ b. P b ⊎ Q b)
+holds-join P Q s t u p q m b = (
+  λ e. ⊎-elim (λ f. inl (p b .0 f)) (λ f. inr (q b .0 f)) (in-union u s t m b .0 e),
+  λ f. in-union u s t m b .1 (⊎-elim (λ x. inl (p b .1 x)) (λ x. inr (q b .1 x)) f),
+)
+
+pub holds-including : (P : ℕ → Type 0) (h s : ℕ) → Holds s P → Holds (including h s) (λ b. (b ≡ h) ⊎ P b)
+holds-including P h s p =
+    holds-join (λ b. b ≡ h) P (2 ^ h) s (including h s)
+    (λ b. (λ m. eqb-true b h (sym (power h b) ∙ m), λ e. power h b ∙ eq-eqb b h e)) p (joined (2 ^ h) s)
+
+pub holds-without : (P : ℕ → Type 0) (s t u : ℕ) → Holds s P → Members u (λ b. has s b && not (eqb b t))
+    → Holds u (λ b. P b × (b ≡ t → ⊥))
+holds-without P s t u p m b = (
+  λ e. let r = in-rest u s t m b .0 e in (p b .0 (r .0), r .1),
+  λ q. in-rest u s t m b .1 (p b .1 (q .0), q .1),
+)
+
+absent : (b : Bool) → (b ≡ true → ⊥) → b ≡ false
+absent true n = absurd (n refl)
+absent false n = refl
+
+-- A set that is 0 exactly where the predicate tells nobody.
+pub holds-empty : (P : ℕ → Type 0) (s : ℕ) → Holds s P → (s ≡ 0) ↔ ((b : ℕ) → P b → ⊥)
+holds-empty P s p =
+    (λ e b q. nobody-in s b e (p b .1 q), λ none. no-members s (λ b. absent (has s b) (λ m. none b (p b .0 m))))
+
+-- Members below 64 alone make a set of 64 bits.
+pub below-64 : (s : ℕ) → ((h : ℕ) → In s h → h < 64) → s < 2 ^ 64
+unfolding has
+below-64 s below =
+    lt-of-not-le
+    (λ (past : 2 ^ 64 ≤ s).
+    let (h, m) = some-member (s / 2 ^ 64) (λ z. omega (arith, z, past)) in
+    let member : In s (64 + h) = ap (λ (n : ℕ). eqb (n % 2) 1) (sym (shr-shr s 64 h)) ∙ m in
+    omega (arith, below (64 + h) member))
+
+-- A set without one of its members is less as a number, so that a walk over the members ends.
+pub rest-less : (r s t : ℕ) → Members r (λ h. has s h && not (eqb h t)) → In s t → r < s
+rest-less r s t rest =
+    part-less r s t (λ h m. in-rest r s t rest h .0 m .0)
+    (rest t ∙ ap (λ (b : Bool). has s t && not b) (eq-eqb t t refl) ∙ and-false (has s t))
+
+-- ---- The members one by one
+
+-- From h on they are as many as the ones of the set shifted by h.
+counted-from : (n h s : ℕ) → s / 2 ^ h < 2 ^ n → ones (s / 2 ^ h) ≡ length (membersFrom n h s)
+unfolding membersFrom has
+counted-from zero h s few = ap ones (lt-one few) ∙ ones-ones 0
+counted-from (suc n) h s few =
+    let x : ℕ = s / 2 ^ h in
+    let rest : x / 2 ≡ s / 2 ^ suc h = shr-shr s h 1 ∙ ap (λ (k : ℕ). s / 2 ^ k) (add-one h) in
+    let upper = counted-from n (suc h) s (omega (arith, rest, pow-suc 2 n)) in
+    bit (λ (d : ℕ). x % 2 ≡ d → ones x ≡ length (inFront (eqb d 1) h (membersFrom n (suc h) s)))
+    (λ (e : x % 2 ≡ 0). omega (arith, ones-step x, ap ones rest, upper))
+    (λ (e : x % 2 ≡ 1). omega (arith, ones-step x, ap ones rest, upper))
+    (x % 2) (mod-lt x (zero-lt-suc 1)) refl
+
+pub counted : (s : ℕ) → s < 2 ^ 64 → ones s ≡ size s
+unfolding members
+counted s few = ap ones (sym (div-one s)) ∙ counted-from 64 0 s (omega (arith, div-one s))
+
+module _ (s r t : ℕ) (member : has s t ≡ true) (rest : Members r (λ h. has s h && not (eqb h t))) where
+  -- But for the one taken out, both have the same members.
+  other : (h : ℕ) → (h ≡ t → ⊥) → has r h ≡ has s h
+  other h n = rest h ∙ ap (λ (b : Bool). has s h && not b) (ne-eqb h t n) ∙ and-true (has s h)
+
+  above-same : (n h : ℕ) → t < h → membersFrom n h s ≡ membersFrom n h r
+  unfolding membersFrom
+  above-same zero h l = refl
+  above-same (suc n) h l =
+      ap₂ (λ (b : Bool) (m : List ℕ). inFront b h m) (sym (other h (λ e. omega arith)))
+      (above-same n (suc h) (omega arith))
+
+  -- Where none from h on is lower, the one taken out stands first.
+  first-from : (n h : ℕ) → h ≤ t → t < h + n → ((k : ℕ) → k < t → has s k ≡ false)
+      → membersFrom n h s ≡ t ∷ membersFrom n h r
+  unfolding membersFrom
+  first-from zero h low high none = absurd (omega arith)
+  first-from (suc n) h low high none =
+      ⊎-elim
+      (λ (here : h ≡ t).
+      let taken : has s h ≡ true = ap (has s) here ∙ member in
+      let left : has r h ≡ false =
+      rest h ∙ ap (λ (b : Bool). has s h && not b) (eq-eqb h t here) ∙ and-false (has s h) in
+      rw (taken, left) (ap₂ _∷_ here (above-same n (suc h) (omega arith))))
+      (λ (below : h < t).
+      let passed : has s h ≡ false = none h below in
+      let left : has r h ≡ false = other h (λ e. omega arith) ∙ passed in
+      rw (passed, left) (first-from n (suc h) (omega arith) (omega arith) none))
+      (eq-or-lt-of-le low)
+
+-- The members are the lowest, then those of the set without it.
+pub lowest-first : (s r t : ℕ) → Lowest s t → Members r (λ h. has s h && not (eqb h t)) → members s ≡ t ∷ members r
+unfolding members
+lowest-first s r t l rest = first-from s r t (l .member) rest 64 0 (omega arith) (l .below) (l .least)

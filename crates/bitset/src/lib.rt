@@ -3,7 +3,7 @@ ghost use mathlib.Core.Path.{_≡_};
 ghost use mathlib.Core.Bool.{_&&_, _||_, not};
 ghost use Prim.Native.Nat.{_<_};
 ghost use lib.Dec.{eqb};
-ghost use Rattle.bitset.specs.Bitset.{has, Members, Lowest};
+ghost use Rattle.bitset.specs.Bitset.{has, Members, Lowest, size as Size};
 
 // The set of one transaction.
 pub fn single(transaction: u32) -> u64
@@ -49,4 +49,11 @@ pub fn lowest(set: u64) -> u32
     ensures { λ r. ⌜ Lowest set r ⌝ }
 {
     u64::trailing_zeros(set)
+}
+
+// How many members the set has.
+pub fn size(set: u64) -> u32
+    ensures { λ r. ⌜ r ≡ Size set ⌝ }
+{
+    u64::count_ones(set)
 }

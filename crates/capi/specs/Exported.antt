@@ -20,7 +20,15 @@ abbrev pub accepted : Numbers → Accepted
 accepted n = record { refusal = n .refusal }
 
 abbrev pub operated : Numbers → Operated
-operated n = record { refusal = n .refusal; code = n .code; owner = n .owner; answer = n .answer; value = n .value }
+operated n =
+    record {
+      refusal = n .refusal;
+      code = n .code;
+      owners = n .owners;
+      count = n .count;
+      answer = n .answer;
+      value = n .value;
+    }
 
 abbrev pub ended : Numbers → Ended
 ended n = record { refusal = n .refusal; code = n .code; count = n .count }

@@ -13,12 +13,13 @@ pub struct Accepted {
     pub refusal: u32,
 }
 
-// What operate replies: 0 wait, 1 answered.
+// What operate replies: 0 wait, with the set of owners and their number; 1 answered, with the answer's code and value.
 #[repr(C)]
 pub struct Operated {
     pub refusal: u32,
     pub code: u32,
-    pub owner: u32,
+    pub owners: u64,
+    pub count: u32,
     pub answer: u32,
     pub value: u32,
 }
@@ -74,7 +75,8 @@ pub extern "C" fn lending_desk_operate(
     Operated {
         refusal: n.refusal,
         code: n.code,
-        owner: n.owner,
+        owners: n.owners,
+        count: n.count,
         answer: n.answer,
         value: n.value,
     }

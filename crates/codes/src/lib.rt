@@ -2,7 +2,7 @@
 use protocol::Reply;
 ghost use mathlib.Core.Path.{_≡_};
 ghost use Rattle.protocol.specs.ReplyOf.{replyOf};
-ghost use Rattle.codes.specs.Codes.{numbersOf};
+ghost use Rattle.codes.specs.Codes.{numbersOf, listed as Listed};
 
 const WAIT: u32 = 0;
 
@@ -20,11 +20,26 @@ const CANCELLED: u32 = 5;
 pub struct Numbers {
     pub refusal: u32,
     pub code: u32,
-    pub owner: u32,
+    pub owners: u64,
     pub answer: u32,
     pub value: u32,
     pub count: u32,
     pub rows: u32,
+}
+
+// Of a reply that counts those in the list.
+fn listed(code: u32, count: u32) -> Numbers
+    ensures { λ r. ⌜ r ≡ Listed code count ⌝ }
+{
+    Numbers {
+        refusal: protocol::ACCEPTED,
+        code: code,
+        owners: 0,
+        answer: 0,
+        value: 0,
+        count: count,
+        rows: 0,
+    }
 }
 
 // What a reply does not have is 0, and 0 is the code of a wait too.
@@ -34,7 +49,7 @@ pub fn numbers_of(reply: Reply) -> Numbers
     let mut n = Numbers {
         refusal: protocol::ACCEPTED,
         code: WAIT,
-        owner: 0,
+        owners: 0,
         answer: 0,
         value: 0,
         count: 0,
@@ -42,25 +57,19 @@ pub fn numbers_of(reply: Reply) -> Numbers
     };
     match reply {
         Reply::Ok => {}
-        Reply::Wait(owner) => n.owner = owner,
+        Reply::Wait(owners, count) => {
+            n.owners = owners;
+            n.count = count;
+        }
         Reply::Answered(code, value) => {
             n.code = ANSWERED;
             n.answer = code;
             n.value = value;
         }
         Reply::Finished => n.code = FINISHED,
-        Reply::Committed(count) => {
-            n.code = COMMITTED;
-            n.count = count;
-        }
-        Reply::Circle(count) => {
-            n.code = CIRCLE;
-            n.count = count;
-        }
-        Reply::Cancelled(count) => {
-            n.code = CANCELLED;
-            n.count = count;
-        }
+        Reply::Committed(count) => n = listed(COMMITTED, count),
+        Reply::Circle(count) => n = listed(CIRCLE, count),
+        Reply::Cancelled(count) => n = listed(CANCELLED, count),
         Reply::Counted(rows) => n.rows = rows,
         Reply::Refused(reason) => n.refusal = reason,
     }

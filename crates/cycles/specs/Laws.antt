@@ -1,6 +1,6 @@
 -- The search for all that is reached, and walks over a set's members.
 use Prim.Native.Nat.{ℕ, zero, suc, _^_, _<_}
-use mathlib.Core.Path.{_≡_, refl, sym, ap, subst, _∙_}
+use mathlib.Core.Path.{_≡_, sym, ap, subst, _∙_}
 use mathlib.Core.Bool.{Bool, true, false, not, _&&_, _||_, and-eq-true-iff}
 use mathlib.Core.Logic.{inl, inr, ⊎-elim, _↔_}
 use mathlib.Core.List.{List}
@@ -9,24 +9,18 @@ use lib.Dec.{eqb}
 use lib.ListN.{getD}
 use Rattle.operations.specs.Laws.Cases.{split, same}
 use Rattle.bitset.specs.Bitset.{has, Members, In}
-use Rattle.bitset.specs.Laws.{nobody-in, no-members, some-member, member-below, part-less, in-union, in-rest}
+use Rattle.bitset.specs.Laws.{nobody-in, no-members, some-member, member-below, in-union, in-rest}
 use Rattle.store.specs.Dependency.{Way, Leads}
 use Rattle.store.specs.Laws.Ways.{onward, shortened}
 use Rattle.cycles.specs.Cycles.{EdgeIn, Reaches}
 
--- ---- Members of intersections, and of a set without one
+-- ---- Members of intersections
 
 pub in-both : (r a b h : ℕ) → Members r (λ k. has a k && has b k) → In r h → In a h × In b h
 in-both r a b h both m = and-eq-true-iff (has a h) (has b h) .0 (sym (both h) ∙ m)
 
 of-both : (r a b h : ℕ) → Members r (λ k. has a k && has b k) → In a h → In b h → In r h
 of-both r a b h both m n = both h ∙ and-eq-true-iff (has a h) (has b h) .1 (m, n)
-
--- A set without one of its members is less as a number, so that a walk over the members ends.
-pub rest-less : (r s t : ℕ) → Members r (λ h. has s h && not (eqb h t)) → In s t → r < s
-rest-less r s t rest =
-    part-less r s t (λ h m. in-rest r s t rest h .0 m .0)
-    (split (has r t) (λ (m : In r t). absurd (in-rest r s t rest t .0 m .1 refl)) (λ (e : has r t ≡ false). e))
 
 -- ---- The search
 

@@ -1,2 +1,3 @@
+pub mod Nobody
 pub mod Ending
 pub mod Laws

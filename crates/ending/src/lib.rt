@@ -9,8 +9,11 @@ ghost use Rattle.store.specs.Layout.{Packed, base, decode, encode};
 ghost use Rattle.store.specs.Soundness.{EntriesFit, Room};
 ghost use Rattle.store.specs.Dependency.{Ready};
 ghost use Rattle.protocol.specs.Ending.{carriedOut, ended, commit as Commit, lowestReady, settledAll, committedFirst};
-ghost use Rattle.layout.specs.Nobody.{Names};
+ghost use Rattle.ending.specs.Nobody.{Names};
 ghost use Rattle.ending.specs.Ending.{Tracked, Forgotten, Concluded};
+
+// Stands for no transaction.
+const NOBODY: u32 = TRANSACTIONS as u32;
 
 // Its entries leave the log, and ranks close up.
 fn end(book: &mut [u32], transaction: u32)
@@ -55,8 +58,8 @@ fn lowest_ready(book: &[u32], edges: &[u64; TRANSACTIONS], finished: u64) -> u32
     requires { ⌜ Tracked (now book) (now edges) finished ⌝ }
     ensures { λ r. ⌜ Names r (lowestReady (decode base (now (book .entry)))) ⌝ }
 {
-    let mut lowest = layout::NOBODY;
-    let mut rank = layout::NOBODY;
+    let mut lowest = NOBODY;
+    let mut rank = NOBODY;
     let mut left = finished;
     while left != 0 {
         let transaction = bitset::lowest(left);
@@ -97,7 +100,7 @@ fn commit_ready(
     let mut count: usize = 0;
     loop {
         let transaction = lowest_ready(book, edges, left);
-        if transaction == layout::NOBODY {
+        if transaction == NOBODY {
             return count;
         }
         commit(book, transaction);

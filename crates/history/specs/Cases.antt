@@ -50,7 +50,7 @@ wholeCase =
     ∷ says (begin 1) ok
     ∷ says (operate 0 0 1 7 0) (answered (answering 1 0))
     ∷ says (operate 1 0 1 9 0) (answered (answering 1 0))
-    ∷ says (operate 1 0 3 0 0) (wait 0)
+    ∷ says (operate 1 0 3 0 0) (wait 1 1)
     ∷ lists (finish 1 lent) finished lent
     ∷ lists (finish 0 lent) (committed 2) (0 ∷ 1 ∷ replicate 62 0)
     ∷ says (begin 2) ok
@@ -95,7 +95,7 @@ twiceUsed =
     ∷ says (operate 1 0 1 6 0) (answered (answering 1 0))
     ∷ says (operate 1 1 1 7 0) (answered (answering 1 0))
     ∷ says (operate 0 1 1 8 0) (answered (answering 1 0))
-    ∷ says (operate 0 0 3 0 0) (wait 1)
+    ∷ says (operate 0 0 3 0 0) (wait 2 1)
     ∷ says (operate 1 3 7 16_777_221 3) (answered (answering 1 0))
     ∷ says (operate 1 3 9 5 0) (answered (answering 1 3))
     ∷ lists (finish 0 long) finished long

@@ -16,7 +16,7 @@ use Rattle.protocol.specs.Call.{Call, setUp, begin, operate, finish, cancel, co
 
 -- ---- Lists of calls
 
--- A call, with any arguments, and what it answering and handed back.
+-- A call, with any arguments, and what it replied and handed back.
 pub record Event : Type 0 where
   pub call : Call
   pub outcome : Outcome
@@ -119,7 +119,7 @@ module _ (reduce : ℕ → ℕ) where
   abbrev pub noted : Call → Reply → List ℕ → History → History
   noted call ok list h = begun call h
   noted call (answered a) list h = entered reduce call a h
-  noted call (wait owner) list h = h
+  noted call (wait owners count) list h = h
   noted call finished list h = h
   noted call (committed n) list h = committedInOrder (take n list) h
   noted call (circle n) list h = committedInOrder (take n list) (aborted call h)

@@ -3,7 +3,6 @@ use Prim.Native.Nat.{ℕ, _+_, _-_, _*_, _≤_, _<_}
 use mathlib.Core.Path.{_≡_, refl, sym, ap, ap₂, _∙_, subst}
 use mathlib.Core.Bool.{true, false}
 use mathlib.Core.Logic.{_↔_}
-use mathlib.Core.Option.{Option, none, some}
 use mathlib.Core.List.{List, [], _∷_, _++_, map, map-append, append-nil}
 use native.Mathlib.Nat.{not-suc-le-zero}
 use native.Mathlib.Numerals.{add-one}
@@ -18,19 +17,7 @@ use Rattle.operations.specs.Laws.Cases.{split, same}
 use Rattle.replay.specs.Replay.{rowOf, rowsOf}
 use Rattle.store.specs.Layout.{word, tabulate, objectStart, rowAt, rowsAt}
 use Rattle.store.specs.Laws.Lists.{tabulate-snoc, tabulate-zero, tabulate-same}
-use Rattle.layout.specs.Nobody.{Names}
 use Rattle.layout.specs.Rows.{rowIn}
-
--- ---- Nobody, or somebody
-
-module _ (r : ℕ) where
-  pub names-nobody : (o : Option ℕ) → Names r o → r ≡ 64 → o ≡ none
-  names-nobody none n e = refl
-  names-nobody (some t) (f, l) e = absurd (omega (arith, f, l, e))
-
-  pub names-somebody : (o : Option ℕ) → Names r o → (r ≡ 64 → ⊥) → (o ≡ some r) × (r < 64)
-  names-somebody none n other = absurd (other n)
-  names-somebody (some t) (f, l) other = (ap some (sym f), omega (arith, f, l))
 
 -- ---- Zeros
 

@@ -18,9 +18,6 @@ pub const TRANSACTIONS: usize = 64;
 
 pub const LAST_TRANSACTION: u32 = TRANSACTIONS as u32 - 1;
 
-// Stands for no transaction.
-pub const NOBODY: u32 = TRANSACTIONS as u32;
-
 // The bytes that the list lent to finish and cancel must have.
 pub const LIST: usize = TRANSACTIONS;
 

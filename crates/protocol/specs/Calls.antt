@@ -1,5 +1,5 @@
--- Document 01, "Calls" and "Reasons for saying no": each call, from every word of a book and any arguments to all that
--- it leaves.
+-- Document 01, "Calls" and "Reasons for saying no", and 02: each call, from every word of a book and any arguments to
+-- all that it leaves.
 use Prim.Native.Nat.{ℕ, zero, suc, _-_}
 use mathlib.Core.Bool.{Bool, true, false, cond, decide, not, _&&_, _||_}
 use mathlib.Core.Option.{Option, none, some}
@@ -10,6 +10,7 @@ use Rattle.operations.specs.Operations.{Kind, Operation, Answer, stored, answer
 use Rattle.operations.specs.PairRules.{recoverable, firstNumber, lastNumber}
 use Rattle.operations.specs.Log.{Entry, after}
 use Rattle.operations.specs.Operations.{adds}
+use Rattle.bitset.specs.Bitset.{including, size}
 use Rattle.store.specs.Store.{transactionCount, objectCount, entryLimit, listLength}
 use Rattle.store.specs.Store.{Status, absent, active, pseudoCommitted, Store, statusOf, objectOf, pseudoCommittedCount}
 use Rattle.store.specs.Store.{onObject}
@@ -112,12 +113,13 @@ empty kinds =
       log = [];
     }
 
--- The owner of the earliest entry of another transaction that the request isn't recoverable against.
-abbrev pub blocker : ℕ → Operation → List (Entry Operation Answer) → Option ℕ
-blocker t requested [] = none
-blocker t requested (e ∷ l) =
+-- The owners that force a transaction's request to wait, as a set of 64 bits (02, No. 1): every other transaction with
+-- an entry, of those on the object, that the request isn't recoverable against.
+abbrev pub owners : ℕ → Operation → List (Entry Operation Answer) → ℕ
+owners t requested [] = 0
+owners t requested (e ∷ l) =
     cond (eqb (e .transaction) t || recoverable requested (e .operation))
-    (blocker t requested l) (some (e .transaction))
+    (owners t requested l) (including (e .transaction) (owners t requested l))
 
 -- The answer that replay gives after the object's rows and its entries in order.
 abbrev pub answerTo : Operation → Store → ℕ → Answer
@@ -140,12 +142,13 @@ module _ (format : Format) where
   abbrev pub request : ℕ → ℕ → ℕ → Operation
   request number k v = orPop (stored (format .reduce) number k v)
 
-  -- Told to wait, with nothing changed, or entered and answered.
-  abbrev pub respond : List ℕ → ℕ → ℕ → Operation → Option ℕ → Served
-  respond w t o requested (some owner) = served w (outcome (wait owner) [] [])
-  respond w t o requested none =
+  -- Where the set of those that force it to wait is empty, entered and answered; else told to wait for them, with
+  -- nothing changed.
+  abbrev pub respond : List ℕ → ℕ → ℕ → Operation → ℕ → Served
+  respond w t o requested zero =
       let s = decode format w in
       served (encode format (entered t o requested s)) (outcome (answered (answerTo requested s o)) [] [])
+  respond w t o requested (suc n) = served w (outcome (wait (suc n) (size (suc n))) [] [])
 
   -- Those that committed go to the list's front; the rest of the list keeps its bytes.
   abbrev pub concluded : (ℕ → Reply) → List ℕ → Settlement → Served
@@ -191,7 +194,7 @@ module _ (format : Format) where
     operate w t o number k v =
         let requested = request number k v in
         unless (operateReason w t o number k v) w []
-        (respond w t o requested (blocker t requested (onObject o (decode format w .log))))
+        (respond w t o requested (owners t requested (onObject o (decode format w .log))))
 
     -- Of finish and of cancel.
     abbrev pub endReason : List ℕ → ℕ → List ℕ → ℕ

@@ -3,7 +3,8 @@ pub mod Ranks
 pub mod Carrying
 pub mod Ending
 pub mod Settling
-pub mod Blocking
+pub mod Waiting
+pub mod Listing
 pub mod Detours
 pub mod Keeping
 pub mod Kept

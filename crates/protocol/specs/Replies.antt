@@ -3,13 +3,13 @@ use Prim.Native.Nat.{ℕ}
 use mathlib.Core.List.{List}
 use Rattle.operations.specs.Operations.{Answer}
 
--- Document 01's replies, in its words.
+-- The replies of documents 01 and 02, in their words.
 pub data Reply : Type 0 where
   ok : Reply
   -- an operation's answer, code and value
   answered : Answer → Reply
-  -- the owner of the entry that forces the wait
-  wait : (owner : ℕ) → Reply
+  -- the owners whose entries force the wait, as a set of 64 bits, and their number (02, No. 1)
+  wait : (owners count : ℕ) → Reply
   finished : Reply
   -- how many the list names
   committed circle cancelled : (count : ℕ) → Reply

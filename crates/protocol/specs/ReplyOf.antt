@@ -8,7 +8,7 @@ use Rattle.protocol.specs.declared.Reply.the-variants.{Cancelled, Counte
 abbrev pub replyOf : Reply → model.Reply
 replyOf Ok = model.ok
 replyOf (Answered code value) = model.answered (answering code value)
-replyOf (Wait owner) = model.wait owner
+replyOf (Wait owners count) = model.wait owners count
 replyOf Finished = model.finished
 replyOf (Committed count) = model.committed count
 replyOf (Circle count) = model.circle count

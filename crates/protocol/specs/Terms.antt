@@ -57,20 +57,22 @@ module _ (format : Format) where
 -- ---- Operate
 
 module _ (t : ℕ) (requested : Operation) where
-  -- Another's entry that the request is not recoverable against makes it wait; no other does.
+  -- The entry is its own, or one that the request is recoverable against: all others make it wait.
   abbrev pub Passes : Entry Operation Answer → Type 0
   Passes e = (e .transaction ≡ t → ⊥) → recoverable requested (e .operation) ≡ true
 
-  -- The earliest entry that makes it wait is the owner's.
-  pub record Earliest (owner : ℕ) (l : List (Entry Operation Answer)) : Type 0 where
-    pub before : List (Entry Operation Answer)
-    pub entry : Entry Operation Answer
-    pub after : List (Entry Operation Answer)
-    pub parts : l ≡ before ++ (entry ∷ after)
-    pub passed : All Passes before
-    pub owned : entry .transaction ≡ owner
-    pub other : owner ≡ t → ⊥
-    pub unrecoverable : recoverable requested (entry .operation) ≡ false
+  -- The entry is u's, and one that the request is not recoverable against.
+  abbrev pub Bars : ℕ → Entry Operation Answer → Type 0
+  Bars u e = (e .transaction ≡ u) × (recoverable requested (e .operation) ≡ false)
+
+  -- Another transaction that owns such an entry.
+  abbrev pub Owner : List (Entry Operation Answer) → ℕ → Type 0
+  Owner l u = (u ≡ t → ⊥) × Any (Bars u) l
+
+-- Each is below every later one.
+abbrev pub Ascends : List ℕ → Type 0
+Ascends [] = Unit {0}
+Ascends (t ∷ ts) = All (λ u. t < u) ts × Ascends ts
 
 -- Two places of the log: the earlier entry is b's, the later one is a's, both are of one object, and they do not
 -- commute.
@@ -98,11 +100,12 @@ abbrev pub inOrder : List ℕ → List (Entry Operation Answer) → List (Entry 
 inOrder [] l = []
 inOrder (t ∷ ts) l = only (one t) l ++ inOrder ts l
 
--- The log without them.
+-- The log without the entries of those listed.
 abbrev pub withoutAll : List ℕ → List Logged → List Logged
 withoutAll [] log = log
 withoutAll (t ∷ ts) log = withoutAll ts (without t log)
 
+-- It is listed.
 abbrev pub Among : ℕ → List ℕ → Type 0
 Among u l = Any (λ (x : ℕ). x ≡ u) l
 

@@ -1,9 +1,9 @@
 -- What holds of the calls as `Calls` and `Ending` define them: where each is refused, and what it leaves; that each
 -- operation is answered, told to wait, ordered behind another, finished, cancelled for a circle or committed exactly
--- where document 000's recoverability and commit protocol (sections 4.2.1 and 4.3), as 01 fixes them, says so; and what
--- every call keeps.
-use Prim.Native.Nat.{ℕ, _+_, _*_, _<_, _≤_}
-use mathlib.Core.Path.{_≡_, sym, ap, _∙_, subst}
+-- where document 000's recoverability and commit protocol (sections 4.2.1 and 4.3), as 01 and 02 fix them, says so; and
+-- what every call keeps.
+use Prim.Native.Nat.{ℕ, _+_, _*_, _^_, _<_, _≤_}
+use mathlib.Core.Path.{_≡_, sym, ap, _∙_, subst, subst⁻¹}
 use mathlib.Core.Bool.{true, false}
 use mathlib.Core.Logic.{_↔_, _⊎_, Iff·rfl, Iff·trans, Iff·and}
 use mathlib.Core.Option.{some}
@@ -15,6 +15,7 @@ use Rattle.operations.specs.Operations.{Kind, Operation, Answer, All, numberOf,
 use Rattle.operations.specs.PairRules.{recoverable, commutes}
 use Rattle.operations.specs.Log.{Entry, after}
 use Rattle.operations.specs.Laws.Objects.{object}
+use Rattle.bitset.specs.Bitset.{In, Holds, members, size}
 use Rattle.store.specs.Store.{absent, active, pseudoCommitted, Logged, Store, statusOf, Active, PseudoCommitted}
 use Rattle.store.specs.Store.{pseudoCommittedCount, objectOf, onObject}
 use Rattle.store.specs.Dependency.{Any, DependsOn, Ready, Leads, OnCycle}
@@ -27,15 +28,16 @@ use Rattle.store.specs.Laws.Changes.{representable-status}
 use Rattle.protocol.specs.Replies.{Served, ok, answered, wait, finished, committed, circle, cancelled, counted}
 use Rattle.protocol.specs.Replies.{refused}
 use Rattle.protocol.specs.Ending.{ended, commit, Settlement, settledAll}
-use Rattle.protocol.specs.Calls.{setUpReason, setUp, beginReason, begin, blocker, request, operateReason, operate}
+use Rattle.protocol.specs.Calls.{setUpReason, setUp, beginReason, begin, owners, request, operateReason, operate}
 use Rattle.protocol.specs.Calls.{endReason, finish, cancel, contentsReason, contents}
 use Rattle.protocol.specs.Call.{Call, desk, reasonOf, listOf}
 use Rattle.protocol.specs.Terms.{SetUpAccepted, BeginAccepted, OperateAccepted, EndAccepted, ContentsAccepted}
-use Rattle.protocol.specs.Terms.{LowestReady, Places, Earliest, inOrder, withoutAll, Distinct}
+use Rattle.protocol.specs.Terms.{LowestReady, Places, Owner, Among, Ascends, inOrder, withoutAll, Distinct}
 use Rattle.protocol.specs.Laws.Reasons.{set-up-accepted, set-up-accepts, begin-accepted, begin-accepts}
 use Rattle.protocol.specs.Laws.Reasons.{operate-accepted, operate-accepts, end-accepted, end-accepts}
 use Rattle.protocol.specs.Laws.Reasons.{contents-accepted, contents-accepts}
-use Rattle.protocol.specs.Laws.Blocking.{blocked-none, blocked-some}
+use Rattle.protocol.specs.Laws.Waiting.{none-owned, owned-exactly, none-awaited}
+use Rattle.protocol.specs.Laws.Listing.{listed, ascend}
 use Rattle.protocol.specs.Laws.Settling.{lowest-found, none-ready, settled-end, settled-step}
 use Rattle.protocol.specs.Laws.Protocol as protocol
 use Rattle.protocol.specs.Laws.Commits as commits
@@ -143,23 +145,56 @@ module _ (w : List ℕ) (t o number k v : ℕ) (accepted : operateReason base wh
       (onObject o (s .log))
   operate-answered-exactly =
       rw (protocol.responded w t o number k v accepted)
-      (Iff·trans (protocol.answered-none w t o requested (blocker t requested (onObject o (s .log))))
-      (blocked-none t requested (onObject o (s .log))))
+      (Iff·trans (protocol.answered-none w t o requested (owners t requested (onObject o (s .log))))
+      (none-owned t requested (onObject o (s .log))))
 
-  -- waits for the owner of the earliest that it is not recoverable against,
-  pub operate-waits-exactly : (owner : ℕ) → (operated .outcome .reply ≡ wait owner)
-      ↔ Earliest t requested owner (onObject o (s .log))
-  operate-waits-exactly owner =
-      rw (protocol.responded w t o number k v accepted)
-      (Iff·trans (protocol.waits-some w t o requested owner (blocker t requested (onObject o (s .log))))
-      (blocked-some t requested owner (onObject o (s .log))))
+  -- else waits for a set, not empty, whose members are exactly the other transactions with an entry on the object that
+  -- it is not recoverable against, says how many they are, and changes no word;
+  pub operate-waits-exactly : (set count : ℕ) → ((operated .outcome .reply ≡ wait set count)
+      ↔ (Holds set (Owner t requested (onObject o (s .log))) × (set ≡ 0 → ⊥) × (count ≡ size set)))
+      × (operated .outcome .reply ≡ wait set count → operated .book ≡ w)
+  operate-waits-exactly set count =
+      let awaited = owners t requested (onObject o (s .log)) in
+      let exactly = owned-exactly t requested (onObject o (s .log)) set in
+      rw (protocol.responded w t o number k v accepted) (
+        Iff·trans (protocol.waits-some w t o requested set count awaited)
+            (λ p. (exactly .0 (p .0), p .1, p .2), λ p. (exactly .1 (p .0), p .1, p .2)),
+        protocol.waits-unchanged w t o requested set count awaited,
+      )
 
-  -- and does one of the two; waiting, it changes no word.
+  -- there is no third reply.
   pub operate-either : ((a : Answer) × (operated .outcome .reply ≡ answered a))
-      ⊎ ((owner : ℕ) × (operated .outcome .reply ≡ wait owner) × (operated .book ≡ w))
+      ⊎ ((set count : ℕ) × (operated .outcome .reply ≡ wait set count))
   operate-either =
       rw (protocol.responded w t o number k v accepted)
-      (protocol.either-reply w t o requested (blocker t requested (onObject o (s .log))))
+      (protocol.either-reply w t o requested (owners t requested (onObject o (s .log))))
+
+  -- The set has 64 bits. Listed, as a script prints them, its members are exactly these, ascend, and are as many as it
+  -- says.
+  pub operate-waits-listed : (set count : ℕ) → operated .outcome .reply ≡ wait set count
+      → (set < 2 ^ 64) × ((u : ℕ) → Among u (members set) ↔ Owner t requested (onObject o (s .log)) u)
+      × Ascends (members set) × (length (members set) ≡ count)
+  operate-waits-listed set count said =
+      let (owned, others, sized) = operate-waits-exactly set count .0 .0 said in
+      let below = protocol.awaited-below w t o number k v accepted set count said in (
+        below,
+        λ u. Iff·trans (listed set below u) (owned u),
+        ascend set,
+        sym sized,
+      )
+
+  -- Once all of them have ended, committed or cancelled, others perhaps too, and nothing has been logged since, the
+  -- same operation is not told to wait, whatever else the book then holds: its log is this one without the entries of
+  -- those that have ended. (It may be refused.)
+  pub operate-waits-no-more : (set count : ℕ) → operated .outcome .reply ≡ wait set count
+      → (gone : List ℕ) → ((u : ℕ) → In set u → Among u gone)
+      → (later : List ℕ) → decode base later .log ≡ withoutAll gone (s .log)
+      → (x n : ℕ) → operate base whetherSound later t o number k v .outcome .reply ≡ wait x n → ⊥
+  operate-waits-no-more set count said gone all later left =
+      let awaits = protocol.awaits w t o number k v accepted set count said in
+      protocol.never-waits later t o number k v
+      (ap (λ (log : List Logged). owners t requested (onObject o log)) left
+      ∙ none-awaited t requested o gone (s .log) (λ u m. all u (subst⁻¹ (λ (x : ℕ). In x u) awaits m)))
 
   -- The answer is what replay gives after the object's rows and its entries in order, and the request stands last in
   -- the log with it.
@@ -282,17 +317,17 @@ module _ (s : Store) (r : Representable base s) (h : Unsettled base s) where
 
   -- So a pseudo-committed one commits exactly where no way of dependencies leads from it to an active one;
   pub settles-exactly : (u : ℕ) → PseudoCommitted s u
-      → Any (λ (x : ℕ). x ≡ u) (settledAll s .committed)
+      → Among u (settledAll s .committed)
       ↔ (((v : ℕ) × Active s v × Leads (DependsOn (s .log)) (λ c. Unit {0}) u v) → ⊥)
   settles-exactly = commits.settles-exactly s r h
 
   -- no other commits,
-  pub settles-only : (u : ℕ) → Any (λ (x : ℕ). x ≡ u) (settledAll s .committed) → PseudoCommitted s u
+  pub settles-only : (u : ℕ) → Among u (settledAll s .committed) → PseudoCommitted s u
   settles-only = commits.all-commits s r h .only
 
   -- one that does not commit stays pseudo-committed,
   pub never-aborted : (u : ℕ) → PseudoCommitted s u
-      → Any (λ (x : ℕ). x ≡ u) (settledAll s .committed) ⊎ PseudoCommitted (settledAll s .store) u
+      → Among u (settledAll s .committed) ⊎ PseudoCommitted (settledAll s .store) u
   never-aborted = commits.all-commits s r h .kept
 
   -- and active ones stay active.
@@ -311,7 +346,7 @@ module _ (w : List ℕ) (t : ℕ) (list : List ℕ) (accepted : endReason base w
   -- pseudo-committed one from which, once the transaction's entries are out of the log, no way of dependencies leads to
   -- another active one.
   pub commits-exactly : (u : ℕ)
-      → Any (λ (x : ℕ). x ≡ u) (take n (r .outcome .list))
+      → Among u (take n (r .outcome .list))
       ↔ (((u ≡ t) × (r .outcome .reply ≡ committed n))
       ⊎ (PseudoCommitted (decode base w) u
       × (((v : ℕ) × (v ≡ t → ⊥) × Active (decode base w) v
@@ -321,7 +356,7 @@ module _ (w : List ℕ) (t : ℕ) (list : List ℕ) (accepted : endReason base w
   -- The other pseudo-committed ones stay so, and the other active ones.
   pub stay-exactly : (u : ℕ)
       → PseudoCommitted (decode base (r .book)) u
-      ↔ (PseudoCommitted (decode base w) u × (Any (λ (x : ℕ). x ≡ u) (take n (r .outcome .list)) → ⊥))
+      ↔ (PseudoCommitted (decode base w) u × (Among u (take n (r .outcome .list)) → ⊥))
   stay-exactly = concluding.stay-exactly (decode base w) t list r n left
 
   -- Ranks close up in their order: of two that stay, one is below the other exactly if it was before.

@@ -32,8 +32,8 @@ pub enum Reply {
     Ok,
     // code and value
     Answered(u32, u32),
-    // the owner
-    Wait(u32),
+    // the owners, a set, and their number
+    Wait(u64, u32),
     Finished,
     // how many the list names
     Committed(u32),

@@ -1,8 +1,9 @@
--- Document 01, "Script program": a reply as it is printed, without its line feed.
+-- Document 01, "Script program", and 02: a reply as it is printed, without its line feed.
 use Prim.Native.Nat.{ℕ}
 use Prim.Native.Char.{code}
 use mathlib.Core.List.{List, [], _∷_, _++_}
 use lib.ListN.{take}
+use Rattle.bitset.specs.Bitset.{members}
 use Rattle.protocol.specs.Replies.{Reply, ok, answered, wait, finished, committed, circle, cancelled, counted, refused}
 use Rattle.text.specs.Text.{ascii, decimal}
 
@@ -10,7 +11,7 @@ use Rattle.text.specs.Text.{ascii, decimal}
 abbrev pub wordOf : Reply → List ℕ
 wordOf ok = ascii "ok"
 wordOf (answered reply) = ascii "answer"
-wordOf (wait owner) = ascii "wait"
+wordOf (wait owners count) = ascii "wait"
 wordOf finished = ascii "finished"
 wordOf (committed count) = ascii "committed"
 wordOf (circle count) = ascii "circle"
@@ -18,11 +19,12 @@ wordOf (cancelled count) = ascii "cancelled"
 wordOf (counted rows) = ascii "counted"
 wordOf (refused reason) = ascii "refused"
 
--- The numbers behind the word; those that committed stand at the front of the list.
+-- The numbers behind the word: of a wait how many owners, then these, ascending (02, No. 1); those that committed stand
+-- at the front of the list.
 abbrev pub printedNumbers : Reply → List ℕ → List ℕ
 printedNumbers ok list = []
 printedNumbers (answered reply) list = reply .code ∷ reply .value ∷ []
-printedNumbers (wait owner) list = owner ∷ []
+printedNumbers (wait owners count) list = count ∷ members owners
 printedNumbers finished list = []
 printedNumbers (committed count) list = take count list
 printedNumbers (circle count) list = take count list

@@ -4,6 +4,8 @@ ghost use mathlib.Core.Path.{_≡_};
 ghost use mathlib.Core.List.{[], _∷_};
 ghost use Prim.Native.Nat.{_+_, _*_, _≤_, min};
 ghost use lib.ListN.{length, take};
+ghost use Rattle.bitset.specs.Bitset.{members};
+ghost use Rattle.store.specs.Store.{transactionCount};
 ghost use Rattle.protocol.specs.ReplyOf.{replyOf};
 ghost use Rattle.text.specs.Fields.{Put};
 ghost use Rattle.replies.specs.Printed.{wordOf, printedNumbers, spaced, printed};
@@ -47,6 +49,22 @@ fn put_front(out: &mut [u8], at: usize, list: &[u8], count: u32) -> usize
     end
 }
 
+// Puts the members of a set, ascending: each a space and two digits at most.
+fn put_members(out: &mut [u8], at: usize, set: u64) -> usize
+    requires { ⌜ at + 3 * transactionCount ≤ length (now out) ⌝ }
+    ensures { λ r. ⌜ Put (now (out .entry)) at (spaced (members set)) (now (out .exit)) r
+        × (r ≤ at + 3 * transactionCount) ⌝ }
+{
+    let mut left = set;
+    let mut end = at;
+    while left != 0 {
+        let lowest = bitset::lowest(left);
+        left = bitset::without(left, lowest);
+        end = put_field(out, end, lowest);
+    }
+    end
+}
+
 fn put_word(out: &mut [u8], at: usize, reply: Reply) -> usize
     requires { ⌜ at + 9 ≤ length (now out) ⌝ }
     ensures { λ r. ⌜ Put (now (out .entry)) at (wordOf (replyOf reply)) (now (out .exit)) r ⌝ }
@@ -54,7 +72,7 @@ fn put_word(out: &mut [u8], at: usize, reply: Reply) -> usize
     match reply {
         Reply::Ok => text::put(out, at, b"ok"),
         Reply::Answered(_, _) => text::put(out, at, b"answer"),
-        Reply::Wait(_) => text::put(out, at, b"wait"),
+        Reply::Wait(_, _) => text::put(out, at, b"wait"),
         Reply::Finished => text::put(out, at, b"finished"),
         Reply::Committed(_) => text::put(out, at, b"committed"),
         Reply::Circle(_) => text::put(out, at, b"circle"),
@@ -77,7 +95,10 @@ fn put_numbers(out: &mut [u8], at: usize, reply: Reply, list: &[u8]) -> usize
             let end = put_field(out, at, code);
             put_field(out, end, value)
         }
-        Reply::Wait(owner) => put_field(out, at, owner),
+        Reply::Wait(owners, count) => {
+            let end = put_field(out, at, count);
+            put_members(out, end, owners)
+        }
         Reply::Finished => at,
         Reply::Committed(count) => put_front(out, at, list, count),
         Reply::Circle(count) => put_front(out, at, list, count),

@@ -63,9 +63,9 @@ pub fn operate(
         return Reply::Refused(reason);
     }
     let requested = waits::request(operation, key, value);
-    let owner = waits::blocker(book, transaction, object, requested);
-    if owner != layout::NOBODY {
-        return Reply::Wait(owner);
+    let owners = waits::owners(book, transaction, object, requested);
+    if owners != 0 {
+        return Reply::Wait(owners, bitset::size(owners));
     }
     let answer = answers::answer(book, layout::wide(object), requested);
     log::append(book, transaction, object, requested, answer);

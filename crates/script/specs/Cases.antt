@@ -5,6 +5,7 @@ use mathlib.Core.Path.{_≡_, refl, ap, ap₂, _∙_}
 use mathlib.Core.Option.{some}
 use mathlib.Core.List.{List, [], _∷_, _++_, map}
 use lib.ListN.{replicate, length-replicate}
+use Rattle.bitset.specs.Bitset.{has, membersFrom, members}
 use Rattle.store.specs.Layout.{BookLong}
 use Rattle.protocol.specs.Replies.{Reply, ok}
 use Rattle.protocol.specs.Call.{Call, setUp, desk}
@@ -45,7 +46,7 @@ abbrev pub wholeInput : String
 wholeInput = "S 1 2 3\nB 0\nB 1\nI 0 0 1 7 0\nI 1 0 1 9 0\nI 1 0 3 0 0\nF 1\nF 0\nB 2\nI 2 0 2 0 0\nC 2\n"
 
 abbrev pub wholeOutput : String
-wholeOutput = "ok\nok\nok\nanswer 1 0\nanswer 1 0\nwait 0\nfinished\ncommitted 0 1\nok\nanswer 1 9\ncancelled\n"
+wholeOutput = "ok\nok\nok\nanswer 1 0\nanswer 1 0\nwait 1 0\nfinished\ncommitted 0 1\nok\nanswer 1 9\ncancelled\n"
 
 abbrev wholeCalls : List Call
 wholeCalls = setUp wholeKinds ∷ callsOf wholeCase
@@ -55,7 +56,7 @@ unfolding callIn numberIn
 whole-read = refl
 
 whole-printed : (list : List ℕ) → asLines (printed ok list ∷ map printedAt wholeCase) ≡ ascii wholeOutput
-unfolding printed decimal decimalWithin
+unfolding printed decimal decimalWithin members membersFrom has
 whole-printed list = refl
 
 whole-from : (w : List ℕ) → BookLong w → asLines (replies w (linesIn (ascii wholeInput))) ≡ ascii wholeOutput

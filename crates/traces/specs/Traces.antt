@@ -3,6 +3,7 @@
 use Prim.Native.Nat.{ℕ}
 use mathlib.Core.Path.{_≡_, refl}
 use mathlib.Core.List.{List}
+use Rattle.bitset.specs.Bitset.{has, membersFrom, members}
 use Rattle.store.specs.Layout.{BookLong}
 use Rattle.protocol.specs.Replies.{ok}
 use Rattle.protocol.specs.Call.{setUp, desk}
@@ -13,11 +14,11 @@ use Rattle.traces.specs.Laws.Computing.{unchecked, trace-computed}
 pub whole-case-trace : (w : List ℕ) → BookLong w
     → (desk (setUp wholeKinds) w .outcome .reply ≡ ok)
     × (trace desk (callsOf wholeCase) (desk (setUp wholeKinds) w .book) ≡ wholeCase)
-unfolding unchecked
+unfolding unchecked members membersFrom has
 whole-case-trace = trace-computed wholeKinds refl (callsOf wholeCase)
 
 pub twice-used-trace : (w : List ℕ) → BookLong w
     → (desk (setUp twiceKinds) w .outcome .reply ≡ ok)
     × (trace desk (callsOf twiceUsed) (desk (setUp twiceKinds) w .book) ≡ twiceUsed)
-unfolding unchecked
+unfolding unchecked members membersFrom has
 twice-used-trace = trace-computed twiceKinds refl (callsOf twiceUsed)

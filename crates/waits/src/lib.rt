@@ -1,16 +1,13 @@
 // The operation that a call asks for: as it is stored, and whom it waits for.
 use operations::Operation;
 ghost use mathlib.Core.Path.{_≡_};
-ghost use mathlib.Core.Option.{some};
-ghost use Prim.Native.Nat.{_<_};
 ghost use Rattle.operations.specs.Operations as model;
 ghost use Rattle.operations.specs.PairRules.{Numbered};
-ghost use Rattle.store.specs.Store.{objectCount, objectOf, onObject};
-ghost use Rattle.store.specs.Layout.{Packed, base, decode};
-ghost use Rattle.store.specs.Soundness.{EntriesLive, EntriesFit};
+ghost use Rattle.store.specs.Store.{onObject};
+ghost use Rattle.store.specs.Layout.{base, decode};
 ghost use Rattle.log.specs.Log.{StoredAs};
-ghost use Rattle.layout.specs.Nobody.{Names};
-ghost use Rattle.protocol.specs.Calls.{request as Request, blocker as Blocker};
+ghost use Rattle.protocol.specs.Calls.{request as Request, owners as Owners};
+ghost use Rattle.waits.specs.Waits.{Asked};
 
 // The key reduced, and arguments that the operation doesn't use 0.
 pub fn request(number: u32, key: u32, value: u32) -> Operation
@@ -36,21 +33,20 @@ pub fn request(number: u32, key: u32, value: u32) -> Operation
     }
 }
 
-// The owner of the earliest entry of another transaction on the object that the request isn't recoverable against.
-pub fn blocker(book: &[u32], transaction: u32, object: u32, requested: Operation) -> u32
-    requires { ⌜ Packed base (now book) × EntriesLive (decode base (now book)) × EntriesFit (decode base (now book))
-        × (object < objectCount)
-        × ((o : model.Operation) × StoredAs requested o
-        × (objectOf (decode base (now book)) object .kind ≡ some (model.kindOf o))) ⌝ }
+// The set of those that force the request to wait: every other transaction with an entry on the object that the request
+// isn't recoverable against.
+pub fn owners(book: &[u32], transaction: u32, object: u32, requested: Operation) -> u64
+    requires { ⌜ Asked (now book) object requested ⌝ }
     ensures { λ r. ⌜ ((o : model.Operation) → StoredAs requested o
-        → Names r (Blocker transaction o (onObject object (decode base (now (book .entry)) .log)))) ⌝ }
+        → r ≡ Owners transaction o (onObject object (decode base (now (book .entry)) .log))) ⌝ }
 {
     let kind = layout::object_kind(book, layout::wide(object));
     let entries = layout::entry_count(book);
+    let mut set: u64 = 0;
     let mut i: usize = 0;
-    let owner = 'scan: loop {
+    'scan: loop {
         if i == entries {
-            break 'scan layout::NOBODY;
+            break 'scan set;
         }
         let owner = layout::entry_transaction(book, i);
         let on = layout::entry_object(book, i);
@@ -67,12 +63,12 @@ pub fn blocker(book: &[u32], transaction: u32, object: u32, requested: Operation
         match rule {
             pairs::ALWAYS => continue 'scan,
             pairs::APART => {
-                if requested.key == logged.key {
-                    break 'scan owner;
+                if requested.key != logged.key {
+                    continue 'scan;
                 }
             }
-            _ => break 'scan owner,
+            _ => {}
         }
-    };
-    owner
+        set = bitset::join(set, bitset::single(owner));
+    }
 }

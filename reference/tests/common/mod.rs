@@ -142,10 +142,13 @@ pub fn line_of(call: &Call) -> String {
 /// What the script program prints for an outcome.
 pub fn shown(outcome: Outcome, list: &[u8]) -> String {
     let with_list = |word: &str, count| list[..count].iter().fold(word.to_string(), |line, t| format!("{line} {t}"));
+    let members = |set: u64| (0..64).filter(move |transaction| set >> transaction & 1 == 1);
     match outcome {
         Ok(Reply::Ok) => "ok".to_string(),
         Ok(Reply::Answer { code, value }) => format!("answer {code} {value}"),
-        Ok(Reply::Wait { owner }) => format!("wait {owner}"),
+        Ok(Reply::Wait { owners, count }) => {
+            members(owners).fold(format!("wait {count}"), |line, owner| format!("{line} {owner}"))
+        }
         Ok(Reply::Finished) => "finished".to_string(),
         Ok(Reply::Committed { count }) => with_list("committed", count),
         Ok(Reply::Circle { count }) => with_list("circle", count),

@@ -40,14 +40,24 @@ fn reply(store: &[u32], call: &Call) -> String {
         Call::SetUp { .. } | Call::Begin { .. } => "ok".to_string(),
         Call::Operate { transaction, object, operation, key, .. } => {
             let request = (operation, if operation < 4 { key } else { key % UNREDUCED });
-            let in_the_way =
-                |&&[owner, _, logged, key, ..]: &&Entry| owner != transaction && !recoverable(request, (logged, key));
-            let first = entries_on(store, object).iter().find(in_the_way).map(|entry| entry[0]);
-            first.map_or_else(|| "answer".to_string(), |owner| format!("wait {owner}"))
+            let owners = owners_in_the_way(store, transaction, object, request);
+            if owners.is_empty() {
+                "answer".to_string()
+            } else {
+                with_list(&format!("wait {}", owners.len()), &owners)
+            }
         }
         Call::Finish { transaction } => finish(store, transaction),
         Call::Cancel { transaction } => with_list("cancelled", &commits_after(store, transaction)),
     }
+}
+
+/// The other transactions with an entry on the object that the request isn't recoverable against, ascending.
+fn owners_in_the_way(store: &[u32], transaction: u32, object: u32, request: (u32, u32)) -> Vec<u32> {
+    let entries = entries_on(store, object);
+    let forces_a_wait = |entry: &Entry| !recoverable(request, (entry[2], entry[3]));
+    let in_the_way = |&other: &u32| entries.iter().any(|entry| entry[0] == other && forces_a_wait(entry));
+    (0..64).filter(|&other| other != transaction).filter(in_the_way).collect()
 }
 
 fn finish(store: &[u32], transaction: u32) -> String {

@@ -1,4 +1,5 @@
 -- `codes::numbers_of`: each case's numbers.
+use mathlib.Core.Path.{_∙_}
 use borrow.Author.Needs.{needs}
 use Rattle.codes.specs.Laws.{known}
 use Rattle.codes.proofs.numbers_of.Statement.{statement}
@@ -17,13 +18,13 @@ finished : tie.Need-returns-4
 finished c = known _ (c .enum-told2 .given .1)
 
 committed : tie.Need-returns-5
-committed c = known _ (c .before .reply3 .given .1)
+committed c = c .listed .ensures ∙ known _ (c .before .before .reply3 .given .1)
 
 circle : tie.Need-returns-6
-circle c = known _ (c .before .reply4 .given .1)
+circle c = c .listed2 .ensures ∙ known _ (c .before .before .reply4 .given .1)
 
 cancelled : tie.Need-returns-7
-cancelled c = known _ (c .before .reply5 .given .1)
+cancelled c = c .listed3 .ensures ∙ known _ (c .before .before .reply5 .given .1)
 
 counted : tie.Need-returns-8
 counted c = known _ (c .before .reply6 .given .1)
@@ -40,8 +41,11 @@ numbers-of-spec =
     (λ c. search needs)
     (λ c. search needs)
     (λ c. search needs)
+    (λ c κs. search needs)
     (λ c. search needs)
+    (λ c κs. search needs)
     (λ c. search needs)
+    (λ c κs. search needs)
     (λ c. search needs)
     (λ c. search needs)
     ok

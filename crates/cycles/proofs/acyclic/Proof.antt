@@ -2,7 +2,8 @@
 use mathlib.Core.Path.{refl}
 use borrow.Author.Needs.{needs}
 use Rattle.operations.specs.Laws.Cases.{yes, no, denied}
-use Rattle.cycles.specs.Laws.{OffCycle, Walk, walk-begun, walk-turned, walk-ended, walk-stopped, rest-less}
+use Rattle.bitset.specs.Laws.{rest-less}
+use Rattle.cycles.specs.Laws.{OffCycle, Walk, walk-begun, walk-turned, walk-ended, walk-stopped}
 use Rattle.cycles.proofs.acyclic.Statement.{statement}
 use Rattle.cycles.proofs.acyclic.Tie as tie
 

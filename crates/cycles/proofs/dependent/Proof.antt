@@ -2,7 +2,8 @@
 use mathlib.Core.Path.{refl}
 use borrow.Author.Needs.{needs}
 use Rattle.operations.specs.Laws.Cases.{yes, no, denied}
-use Rattle.cycles.specs.Laws.{Depends, Walk, walk-begun, walk-turned, walk-ended, walk-stopped, rest-less}
+use Rattle.bitset.specs.Laws.{rest-less}
+use Rattle.cycles.specs.Laws.{Depends, Walk, walk-begun, walk-turned, walk-ended, walk-stopped}
 use Rattle.cycles.specs.Laws.{somebody}
 use Rattle.cycles.proofs.dependent.Statement.{statement}
 use Rattle.cycles.proofs.dependent.Tie as tie

@@ -1,7 +1,8 @@
 -- `cycles::reached`: the search goes on until nothing is left to expand; each turn one is expanded, so that what is
 -- left is less.
 use borrow.Author.Needs.{needs}
-use Rattle.cycles.specs.Laws.{Search, begun, turned, ended, in-both, rest-less}
+use Rattle.bitset.specs.Laws.{rest-less}
+use Rattle.cycles.specs.Laws.{Search, begun, turned, ended, in-both}
 use Rattle.cycles.proofs.reached.Statement.{statement}
 use Rattle.cycles.proofs.reached.Tie as tie
 

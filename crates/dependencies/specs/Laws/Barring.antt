@@ -13,13 +13,13 @@ use Rattle.operations.specs.PairRules.{Rule, never, apart, Rules, allows, ruleA
 use Rattle.operations.specs.PairRules.{lastNumber, Numbered, kindNumbered, recoverableRules, commutingRules}
 use Rattle.operations.specs.Laws.Numbers.{kind-numbered, is-numbered}
 use Rattle.bitset.specs.Bitset.{has, Members, Holds, Represents}
+use Rattle.bitset.specs.Laws.{holds-same, holds-without}
 use Rattle.pairs.specs.Pairs.{firstOf, columnOf, widthOf}
 use Rattle.store.specs.Layout.{word, operationAt}
 use Rattle.representatives.specs.Representatives.{entryTransaction, entryObject, entryNumber, entryKey, Readable}
 use Rattle.representatives.specs.Representatives.{Representative}
 use Rattle.dependencies.specs.Dependencies.{Bars, Barred, keyColumn, Picked, PickedBoth, EntryRead}
 use Rattle.dependencies.specs.Dependencies.{Owned, On, AlikeByKey, Gathered}
-use Rattle.dependencies.specs.Laws.Sets.{holds-same, holds-without}
 use Rattle.dependencies.specs.Laws.Numbers.{ranged, picked-of, picked-from}
 use Rattle.dependencies.specs.Laws.Columns.{Told, recoverable-told, commuting-told, apart-shared}
 use Rattle.dependencies.specs.Laws.Rows.{row-alike}

@@ -4,17 +4,18 @@ use mathlib.Core.Path.{_≡_, refl, sym, ap, subst}
 use mathlib.Core.Bool.{true, _||_}
 use mathlib.Core.Logic.{_↔_, _⊎_, inl, inr, ⊎-elim}
 use mathlib.Core.List.{List}
+use borrow.Author.Tests.{eqb-true, eq-eqb}
 use lib.Dec.{eqb}
 use lib.ListN.{length, getD, set, replicate}
 use Rattle.operations.specs.PairRules.{recoverable, commutes}
 use Rattle.bitset.specs.Bitset.{has, Members, Holds, Represents}
+use Rattle.bitset.specs.Laws.{holds-none, holds-same, holds-join, holds-empty}
 use Rattle.store.specs.Layout.{word, base, decode}
 use Rattle.store.specs.Soundness.{EntriesFit, EntriesRecoverable}
 use Rattle.store.specs.Dependency.{DependsOn}
 use Rattle.representatives.specs.Representatives.{entryTransaction}
 use Rattle.dependencies.specs.Dependencies.{Bars, BarsBelow, Unrecoverable}
-use Rattle.dependencies.specs.Laws.Sets.{some-none, some-more, holds-none, holds-same, holds-join}
-use Rattle.dependencies.specs.Laws.Sets.{holds-empty, represents-same, blank-row, represents-join}
+use Rattle.dependencies.specs.Laws.Sets.{some-none, some-more, represents-same, blank-row, represents-join}
 use Rattle.dependencies.specs.Laws.Entries.{recoverable-none, depends-bars}
 
 module _ (w : List ℕ) where
@@ -60,7 +61,7 @@ module _ (w : List ℕ) where
     decided sets u h g =
         let recoverable = recoverable-none w fits in
         let none = holds-empty (Unrecoverable w (word w 0)) u g in (
-          (λ e. recoverable .1 (none .0 e), λ r. none .1 (recoverable .0 r)),
+          (λ e. recoverable .1 (none .0 (eqb-true u 0 e)), λ r. eq-eqb u 0 (none .1 (recoverable .0 r))),
           represents-same (BarsBelow commutes w (word w 0)) (DependsOn (decode base w .log)) sets h (depends-bars w),
         )
 

@@ -13,10 +13,10 @@ use Rattle.operations.specs.PairRules.{Rule, always, never, apart, Rules, allow
 use Rattle.operations.specs.PairRules.{Numbered, kindNumbered}
 use Rattle.operations.specs.Laws.Numbers.{within-kind}
 use Rattle.bitset.specs.Bitset.{has, Members, Holds}
-use Rattle.bitset.specs.Laws.{nobody-in}
+use Rattle.bitset.specs.Laws.{nobody-in, holds-none, holds-same, holds-join}
 use Rattle.pairs.specs.Pairs.{codeOf, codeAt, firstOf, lastOf, columnOf}
 use Rattle.dependencies.specs.Dependencies.{keyColumn, picked, pickedAt, Picked}
-use Rattle.dependencies.specs.Laws.Sets.{some-none, some-more, holds-none, holds-same, holds-join}
+use Rattle.dependencies.specs.Laws.Sets.{some-none, some-more}
 
 -- ---- Kinds
 

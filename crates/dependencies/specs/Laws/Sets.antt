@@ -1,7 +1,7 @@
--- What the operations on sets make of the predicates that tell their members.
+-- Some number below another, and rows of sets by the relations that tell their members.
 use Prim.Native.Nat.{ℕ, zero, suc, _+_, _<_}
 use mathlib.Core.Path.{_≡_, refl, sym, subst, _∙_}
-use mathlib.Core.Bool.{true, false, not, _&&_, _||_}
+use mathlib.Core.Bool.{true, _||_}
 use mathlib.Core.Logic.{_↔_, _⊎_, inl, inr, ⊎-elim}
 use mathlib.Core.List.{List}
 use native.Mathlib.Omega.{arith}
@@ -9,9 +9,9 @@ use borrow.Author.Tests.{eqb-true, eq-eqb}
 use lib.Dec.{eqb}
 use lib.ListN.{getD, set, length, replicate, length-set}
 use lib.Seq.{getD-set-same, getD-set-other}
-use Rattle.operations.specs.Laws.Cases.{split, same}
+use Rattle.operations.specs.Laws.Cases.{same}
 use Rattle.bitset.specs.Bitset.{has, Members, Holds, Represents}
-use Rattle.bitset.specs.Laws.{empty, nobody-in, in-union, in-rest}
+use Rattle.bitset.specs.Laws.{holds-none, holds-same, holds-join}
 use Rattle.dependencies.specs.Dependencies.{Some, WithOwner}
 
 -- ---- Some number below n
@@ -27,36 +27,6 @@ some-more P n = (⊎-elim old (λ p. (n, omega arith, p)), back)
 
     back : Some P (n + 1) → Some P n ⊎ P n
     back (i, l, p) = same i n (λ (e : i ≡ n). inr (subst P e p)) (λ (e : i ≡ n → ⊥). inl (i, omega arith, p))
-
--- ---- One set
-
-pub holds-none : (P : ℕ → Type 0) → ((b : ℕ) → P b → ⊥) → Holds 0 P
-holds-none P none b = (λ e. absurd (nobody-in 0 b refl e), λ p. absurd (none b p))
-
-pub holds-same : (P Q : ℕ → Type 0) (s : ℕ) → Holds s P → ((b : ℕ) → P b ↔ Q b) → Holds s Q
-holds-same P Q s p e b = (λ h. e b .0 (p b .0 h), λ q. p b .1 (e b .1 q))
-
-pub holds-join : (P Q : ℕ → Type 0) (s t u : ℕ) → Holds s P → Holds t Q → Members u (λ b. has s b || has t b)
-    → Holds u (λ b. P b ⊎ Q b)
-holds-join P Q s t u p q m b = (
-  λ e. ⊎-elim (λ f. inl (p b .0 f)) (λ f. inr (q b .0 f)) (in-union u s t m b .0 e),
-  λ f. in-union u s t m b .1 (⊎-elim (λ x. inl (p b .1 x)) (λ x. inr (q b .1 x)) f),
-)
-
-pub holds-without : (P : ℕ → Type 0) (s t u : ℕ) → Holds s P → Members u (λ b. has s b && not (eqb b t))
-    → Holds u (λ b. P b × (b ≡ t → ⊥))
-holds-without P s t u p m b = (
-  λ e. let r = in-rest u s t m b .0 e in (p b .0 (r .0), r .1),
-  λ q. in-rest u s t m b .1 (p b .1 (q .0), q .1),
-)
-
--- A set that is 0 exactly where the predicate tells nobody.
-pub holds-empty : (P : ℕ → Type 0) (s : ℕ) → Holds s P → (eqb s 0 ≡ true) ↔ ((b : ℕ) → P b → ⊥)
-holds-empty P s p = (
-  λ e b q. nobody-in s b (eqb-true s 0 e) (p b .1 q),
-  λ none. eq-eqb s 0 (empty s .1
-      (λ b. split (has s b) (λ (t : has s b ≡ true). absurd (none b (p b .0 t))) (λ (t : has s b ≡ false). t))),
-)
 
 -- ---- A row of sets
 

@@ -9,7 +9,7 @@ use Rattle.store.specs.Layout.{base, decode}
 use Rattle.protocol.specs.Ending.{lowestReady}
 use Rattle.ending.specs.Laws.Settling.{Settling, settling-begun, within, settling-less, settling-more}
 use Rattle.ending.specs.Laws.Settling.{settling-ended}
-use Rattle.layout.specs.Laws.{names-nobody, names-somebody}
+use Rattle.ending.specs.Laws.Nobody.{names-nobody, names-somebody}
 use Rattle.ending.proofs.commit_ready.Statement.{statement}
 use Rattle.ending.proofs.commit_ready.Tie as tie
 

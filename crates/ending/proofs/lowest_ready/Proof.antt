@@ -4,7 +4,7 @@ use mathlib.Core.Logic.{⊎-elim}
 use native.Mathlib.Omega.{arith}
 use borrow.Author.Needs.{needs}
 use Rattle.operations.specs.Laws.Cases.{denied}
-use Rattle.cycles.specs.Laws.{rest-less}
+use Rattle.bitset.specs.Laws.{rest-less}
 use Rattle.store.specs.Layout.{base, decode}
 use Rattle.ending.specs.Laws.Ready.{ready-tested, LeastPassed, has-rank}
 use Rattle.ending.specs.Laws.Ready.{least-none, least-lower, least-kept, least-named}

@@ -11,7 +11,6 @@ use Rattle.operations.specs.Laws.Cases.{split, by-key}
 use Rattle.bitset.specs.Bitset.{has, In, Members, Holds, Represents}
 use Rattle.bitset.specs.Laws.{nobody-in, in-rest}
 use Rattle.cycles.specs.Cycles.{EdgeIn}
-use Rattle.layout.specs.Nobody.{Names}
 use Rattle.store.specs.Store.{pseudoCommitted, Store, statusOf, PseudoCommitted}
 use Rattle.store.specs.Dependency.{DependsOn, Ready}
 use Rattle.store.specs.Layout.{Packed, base, decode, statusWord, word}
@@ -23,6 +22,7 @@ use Rattle.protocol.specs.Ending.{lowestReady}
 use Rattle.protocol.specs.Laws.Ranks.{rank-below}
 use Rattle.protocol.specs.Laws.Settling.{lowest-found, none-ready}
 use Rattle.statuses.specs.Laws.Words.{finished-read, finished-below}
+use Rattle.ending.specs.Nobody.{Names}
 
 -- It depends on nobody, as its set tells.
 pub ready-tested : (sets : List ℕ) (s : Store) (t : ℕ) → Represents sets (DependsOn (s .log))

@@ -28,7 +28,8 @@ use Rattle.protocol.specs.Calls.{unsound, empty, finishActive, setUpReason}
 use Rattle.protocol.specs.Call.{Call, setUp, begin, operate, finish, cancel, contents, desk, reasonOf}
 use Rattle.protocol.specs.Terms.{Among}
 use Rattle.protocol.specs.Theorems.{refused-exactly, refused-untouched, set-up-leaves, set-up-sound, begin-leaves}
-use Rattle.protocol.specs.Theorems.{contents-leaves, operate-either, operate-replayed, sound-kept}
+use Rattle.protocol.specs.Theorems.{contents-leaves, operate-waits-exactly, operate-either, operate-replayed}
+use Rattle.protocol.specs.Theorems.{sound-kept}
 use Rattle.protocol.specs.Laws.Keeping as keeping
 use Rattle.protocol.specs.Laws.Ending.{ended-representable, ended-unsettled, commit-representable, commit-unsettled}
 use Rattle.protocol.specs.Laws.Settling.{settled-kept}
@@ -225,7 +226,8 @@ module _ (kinds : List ℕ) (h : History) (w : List ℕ) (f : InStep kinds h w) 
   operate-links t o number k v e =
       ⊎-elim (λ a. rw (a .1, operate-replayed w t o number k v e (a .0) (a .1) .1)
       (appended-linked kinds h s (f .linked) _))
-      (λ b. rw (b .1, b .2) (f .linked)) (operate-either w t o number k v e)
+      (λ b. rw (b .2, operate-waits-exactly w t o number k v e (b .0) (b .1) .1 (b .2)) (f .linked))
+      (operate-either w t o number k v e)
 
   ended-links : (t : ℕ) (rest : List ℕ) → LinkedOnceSettled kinds (struck t h) (ended t s) rest
   ended-links t =

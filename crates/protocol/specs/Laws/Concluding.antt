@@ -199,7 +199,7 @@ module _ (s : Store) (t : ℕ) (list : List ℕ) (r : Served) (n : ℕ) (c : End
 abbrev told : Reply → Option ℕ
 told ok = none
 told (answered a) = none
-told (wait owner) = none
+told (wait owners count) = none
 told finished = none
 told (committed n) = some n
 told (circle n) = some n

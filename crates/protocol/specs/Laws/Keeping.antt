@@ -34,10 +34,10 @@ use Rattle.store.specs.Laws.Empty.{Empty, empty-sound, base-room}
 use Rattle.store.specs.Laws.Graph.{depends-on-some}
 use Rattle.store.specs.Laws.Changes.{status-own, status-other, on-append}
 use Rattle.store.specs.Laws.Edges.{depends-appended}
-use Rattle.protocol.specs.Calls.{empty, blocker, answerTo, entered}
+use Rattle.protocol.specs.Calls.{empty, owners, answerTo, entered}
 use Rattle.protocol.specs.Laws.Ranks.{ranks-counted}
 use Rattle.protocol.specs.Terms.{Passes}
-use Rattle.protocol.specs.Laws.Blocking.{blocked-none}
+use Rattle.protocol.specs.Laws.Waiting.{none-owned}
 use Rattle.protocol.specs.Laws.Detours.{way-kept, joined, detour}
 
 -- ---- Set up
@@ -158,13 +158,13 @@ module _ (X : ObjectType) where
   answered-last (y ∷ l) x s a e = (a .0, answered-last l x (next (y .operation) s) (a .1) e)
 
 -- Where nothing forces a wait, the request is recoverable against every entry of another.
-unblocked : (kind : Kind) (x : Entry Operation Answer) (l : List (Entry Operation Answer))
-    → blocker (x .transaction) (x .operation) l ≡ none
+all-recovered : (x : Entry Operation Answer) (l : List (Entry Operation Answer))
+    → owners (x .transaction) (x .operation) l ≡ 0
     → All (λ e. Recovers recoverable e x) l
-unblocked kind x l n =
+all-recovered x l n =
     all-map {P = Passes (x .transaction) (x .operation)} {Q = λ e. Recovers recoverable e x}
     (λ e p other. p (λ q. other (sym q))) l
-    (blocked-none (x .transaction) (x .operation) l .0 n)
+    (none-owned (x .transaction) (x .operation) l .0 n)
 
 additions-last : (l : List (Entry Operation Answer)) (x : Entry Operation Answer)
     → additions (l ++ (x ∷ [])) ≡ additions l + additions (x ∷ [])
@@ -215,7 +215,7 @@ module _ (s : Store) (t o : ℕ) (requested : Operation) (h : SoundStore base s)
       (depends-appended a b last (s .log) .0 d)
 
   pub entered-sound : StoredKey reduceKey requested → (adds requested ≡ true → base .used s o < 64)
-      → blocker t requested (onObject o (s .log)) ≡ none
+      → owners t requested (onObject o (s .log)) ≡ 0
       → SoundStore base longer
   entered-sound stored room free =
       let own : List (Entry Operation Answer) = onObject o (s .log) in
@@ -235,7 +235,7 @@ module _ (s : Store) (t o : ℕ) (requested : Operation) (h : SoundStore base s)
               own-kind (λ x j. Recoverable recoverable (onObject x (s .log) ++ (last .entry ∷ [])))
               (recoverable-last (object reduceKey (kindOf requested)) own (last .entry)
               (u .recoverable o (kindOf requested) kinded)
-              (unblocked (kindOf requested) (last .entry) own free)) p kind e k)
+              (all-recovered (last .entry) own free)) p kind e k)
               (u .recoverable p kind k);
           answered = λ p kind k.
               on-last (λ (l : List (Entry Operation Answer)). Answered next answer l (objectOf s p .rows)) p

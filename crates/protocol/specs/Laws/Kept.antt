@@ -1,7 +1,6 @@
 -- Every call leaves a sound book, where it was sound before.
 use Prim.Native.Nat.{ℕ, zero, suc}
 use mathlib.Core.Path.{_≡_, refl, sym, subst}
-use mathlib.Core.Option.{Option, none, some}
 use mathlib.Core.List.{List, []}
 use lib.ListN.{length}
 use Rattle.operations.specs.Operations.{Operation}
@@ -13,7 +12,7 @@ use Rattle.store.specs.Theorems.{representable, decoded, packed}
 use Rattle.store.specs.Laws.Changes.{representable-status, representable-appended}
 use Rattle.protocol.specs.Replies.{ok, counted, cancelled, outcome, Served, served}
 use Rattle.protocol.specs.Ending.{ended, commit, settledAll}
-use Rattle.protocol.specs.Calls.{unless, empty, blocker, request, answerTo, entered, respond, concluded}
+use Rattle.protocol.specs.Calls.{unless, empty, owners, request, answerTo, entered, respond, concluded}
 use Rattle.protocol.specs.Calls.{finishActive, setUpReason, setUp, beginReason, begin, operateReason, operate}
 use Rattle.protocol.specs.Calls.{endReason, finish, cancel, contentsReason, contents}
 use Rattle.protocol.specs.Call as calling
@@ -69,13 +68,13 @@ module _ (w : List ℕ) (h : Sound base w) where
       abbrev requested : Operation
       requested = request base number k v
 
-      abbrev waitedFor : Option ℕ
-      waitedFor = blocker t requested (onObject o (s .log))
+      abbrev awaited : ℕ
+      awaited = owners t requested (onObject o (s .log))
 
-      responded : (owner : Option ℕ) → waitedFor ≡ owner → OperateAccepted base w t o number k v
-          → Sound base (respond base w t o requested owner .book)
-      responded (some owner) e a = h
-      responded none e a =
+      responded : (n : ℕ) → awaited ≡ n → OperateAccepted base w t o number k v
+          → Sound base (respond base w t o requested n .book)
+      responded (suc n) e a = h
+      responded zero e a =
           encoded-sound (entered t o requested s)
           (representable-appended s fits
           (record {
@@ -89,8 +88,8 @@ module _ (w : List ℕ) (h : Sound base w) where
       unfolding operate
       operate-kept =
           unless-kept (Sound base) (operateReason base whetherSound w t o number k v) w []
-          (respond base w t o requested waitedFor) h
-          (λ e. responded waitedFor refl (operate-accepted base whetherSound w t o number k v e))
+          (respond base w t o requested awaited) h
+          (λ e. responded awaited refl (operate-accepted base whetherSound w t o number k v e))
 
     contents-kept : (o : ℕ) → Sound base (contents base whetherSound w o .book)
     unfolding contents

@@ -2,7 +2,6 @@
 use Prim.Native.Nat.{ℕ, zero, suc, _+_, _-_, _*_, _<_}
 use mathlib.Core.Path.{_≡_, refl, sym, ap, _∙_, subst}
 use mathlib.Core.Logic.{_↔_}
-use mathlib.Core.Option.{Option, none, some}
 use mathlib.Core.List.{List, []}
 use native.Mathlib.Omega.{arith}
 use lib.ListN.{length, set, take, drop}
@@ -17,7 +16,7 @@ use Rattle.store.specs.Laws.Reading.{kind-below}
 use Rattle.store.specs.Laws.Rows.{rows-counted, rows-part}
 use Rattle.store.specs.Laws.Writing.{status-put}
 use Rattle.protocol.specs.Replies.{Reply, ok, counted, refused, outcome, Served, served}
-use Rattle.protocol.specs.Calls.{unless, empty, request, blocker, respond, finishActive, setUpReason, setUp}
+use Rattle.protocol.specs.Calls.{unless, empty, request, owners, respond, finishActive, setUpReason, setUp}
 use Rattle.protocol.specs.Calls.{beginReason, begin, operate, finish, cancel, contentsReason, contents}
 use Rattle.protocol.specs.Call as calling
 use Rattle.protocol.specs.Call.{Call, desk, reasonOf, listOf}
@@ -36,10 +35,10 @@ pub record Guarded (reason : ℕ) (w list : List ℕ) (r : Served) : Type 0 wher
   guarded : r ≡ unless reason w list otherwise
   serves : Serves (otherwise .outcome .reply)
 
-responds : (w : List ℕ) (t o : ℕ) (requested : Operation) (b : Option ℕ)
-    → Serves (respond base w t o requested b .outcome .reply)
-responds w t o requested none n e = clash cc
-responds w t o requested (some owner) n e = clash cc
+responds : (w : List ℕ) (t o : ℕ) (requested : Operation) (awaited : ℕ)
+    → Serves (respond base w t o requested awaited .outcome .reply)
+responds w t o requested zero n e = clash cc
+responds w t o requested (suc awaited) n e = clash cc
 
 finishes : (s : Store) (t : ℕ) (list : List ℕ) → Serves (finishActive base s t list .outcome .reply)
 finishes s t list =
@@ -55,7 +54,7 @@ guard (calling.operate t o number k v) w =
     record {
       otherwise = _;
       guarded = refl;
-      serves = responds w t o requested (blocker t requested (onObject o (decode base w .log)));
+      serves = responds w t o requested (owners t requested (onObject o (decode base w .log)));
     }
 guard (calling.finish t list) w = record { otherwise = _; guarded = refl; serves = finishes (decode base w) t list }
 guard (calling.cancel t list) w = record { otherwise = _; guarded = refl; serves = λ n e. clash cc }

@@ -1,15 +1,16 @@
 -- What a call that is not refused replies, and on whom a transaction depends afterwards.
-use Prim.Native.Nat.{ℕ, zero, suc, _+_, _≤_, _<_}
-use mathlib.Core.Path.{_≡_, refl, sym, ap, _∙_, subst}
+use Prim.Native.Nat.{ℕ, zero, suc, _+_, _^_, _≤_, _<_}
+use mathlib.Core.Path.{_≡_, refl, sym, ap, _∙_, subst, subst⁻¹}
 use mathlib.Core.Bool.{false, false≢true, decide, decide-iff}
-use mathlib.Core.Option.{Option, none, some}
 use mathlib.Core.Logic.{_↔_, _⊎_, inl, inr, ⊎-elim, Iff·trans}
 use mathlib.Core.List.{List, []}
 use native.Mathlib.Omega.{arith}
 use lib.ListN.{length, getD}
 use Rattle.operations.specs.Operations.{Operation, Answer}
 use Rattle.operations.specs.PairRules.{commutes}
-use Rattle.store.specs.Store.{pseudoCommitted, Logged, Store, PseudoCommitted, pseudoCommittedCount, onObject}
+use Rattle.operations.specs.Laws.Cases.{all-map}
+use Rattle.bitset.specs.Bitset.{size}
+use Rattle.store.specs.Store.{pseudoCommitted, Logged, Live, Store, PseudoCommitted, pseudoCommittedCount, onObject}
 use Rattle.store.specs.Dependency.{Any, Follows, Conflict, DependsOn, Ready, Way, Leads, OnCycle}
 use Rattle.store.specs.Layout.{decode, encode, Representable, base, word, entryStart, entryWords}
 use Rattle.store.specs.Decisions.{whetherReady, whetherOnCycle, whetherSound}
@@ -20,6 +21,7 @@ use Rattle.store.specs.Laws.Edges.{depends-appended}
 use Rattle.store.specs.Laws.Writing.{log-counted, entry-put, put-count, put-entry, put-other, put-length}
 use Rattle.store.specs.Laws.Graph.{depends-on-some}
 use Rattle.store.specs.Laws.Any.{any-some, any-map}
+use Rattle.store.specs.Laws.Reading.{live-below}
 use Rattle.store.specs.Laws.Deciding.{decided}
 use Rattle.store.specs.Laws.Lists.{PairBelow, follows-some, follows-of, tabulate-getD}
 use Rattle.protocol.specs.Replies.{Reply, answered, wait, finished, committed, circle, cancelled, outcome, Served}
@@ -27,8 +29,9 @@ use Rattle.protocol.specs.Replies.{served}
 use Rattle.protocol.specs.Ending.{ended, commit, committedFirst, settledAll}
 use Rattle.protocol.specs.Terms.{Places}
 use Rattle.protocol.specs.Laws.Detours.{joined}
+use Rattle.protocol.specs.Laws.Waiting.{owners-below}
 use Rattle.protocol.specs.Laws.Reasons.{unless-accepted, operate-accepted, end-accepted}
-use Rattle.protocol.specs.Calls.{blocker, request, answerTo, respond, finishActive, operateReason}
+use Rattle.protocol.specs.Calls.{unless, owners, request, answerTo, respond, finishActive, operateReason}
 use Rattle.protocol.specs.Calls.{operate, endReason, finish, cancel, concluded}
 
 -- Two constructors are not the same.
@@ -38,24 +41,45 @@ clash e = absurd (omega arith)
 -- ---- Operate: answered or told to wait
 
 module _ (w : List ℕ) (t o : ℕ) (requested : Operation) where
-  abbrev said : Option ℕ → Reply
-  said b = respond base w t o requested b .outcome .reply
+  abbrev said : ℕ → Reply
+  said awaited = respond base w t o requested awaited .outcome .reply
 
-  pub answered-none : (b : Option ℕ) → ((a : Answer) × (said b ≡ answered a)) ↔ (b ≡ none)
-  answered-none none = (λ p. refl, λ e. (answerTo requested (decode base w) o, refl))
-  answered-none (some owner) = (
-    λ p. let e = p .1 in clash cc,
-    λ e. clash cc,
+  pub answered-none : (awaited : ℕ) → ((a : Answer) × (said awaited ≡ answered a)) ↔ (awaited ≡ 0)
+  answered-none zero = (λ p. refl, λ e. (answerTo requested (decode base w) o, refl))
+  answered-none (suc n) = (λ p. let e = p .1 in clash cc, λ e. absurd (omega arith))
+
+  pub waits-some : (set count awaited : ℕ)
+      → (said awaited ≡ wait set count) ↔ ((set ≡ awaited) × (set ≡ 0 → ⊥) × (count ≡ size set))
+  waits-some set count zero = (λ e. clash cc, λ p. absurd (p .1 (p .0)))
+  waits-some set count (suc n) = (
+    λ e. let same : set ≡ suc n = cc in (same, λ z. omega (arith, same, z), cc),
+    λ p. let same = p .0 in let counted = p .2 in cc,
   )
 
-  pub waits-some : (owner : ℕ) (b : Option ℕ) → (said b ≡ wait owner) ↔ (b ≡ some owner)
-  waits-some owner none = (λ e. clash cc, λ e. clash cc)
-  waits-some owner (some u) = (λ e. cc, λ e. cc)
+  pub waits-unchanged : (set count awaited : ℕ) → said awaited ≡ wait set count
+      → respond base w t o requested awaited .book ≡ w
+  waits-unchanged set count zero e = clash cc
+  waits-unchanged set count (suc n) e = refl
 
-  pub either-reply : (b : Option ℕ) → ((a : Answer) × (said b ≡ answered a))
-      ⊎ ((owner : ℕ) × (said b ≡ wait owner) × (respond base w t o requested b .book ≡ w))
-  either-reply none = inl (answerTo requested (decode base w) o, refl)
-  either-reply (some owner) = inr (owner, refl, refl)
+  pub either-reply : (awaited : ℕ)
+      → ((a : Answer) × (said awaited ≡ answered a)) ⊎ ((set count : ℕ) × (said awaited ≡ wait set count))
+  either-reply zero = inl (answerTo requested (decode base w) o, refl)
+  either-reply (suc n) = inr (suc n, size (suc n), refl)
+
+-- Where nobody forces it to wait, it is answered or refused.
+pub never-waits : (w : List ℕ) (t o number k v : ℕ)
+    → owners t (request base number k v) (onObject o (decode base w .log)) ≡ 0
+    → (set count : ℕ) → operate base whetherSound w t o number k v .outcome .reply ≡ wait set count → ⊥
+unfolding operate
+never-waits w t o number k v none set count said =
+    by (operateReason base whetherSound w t o number k v)
+    (subst (λ (awaited : ℕ). unless (operateReason base whetherSound w t o number k v) w []
+    (respond base w t o (request base number k v) awaited) .outcome .reply ≡ wait set count) none said)
+  where
+    by : (reason : ℕ)
+        → unless reason w [] (respond base w t o (request base number k v) 0) .outcome .reply ≡ wait set count → ⊥
+    by zero e = clash cc
+    by (suc reason) e = clash cc
 
 -- ---- Operate: ordered behind another
 
@@ -120,25 +144,39 @@ module _ (w : List ℕ) (t o number k v : ℕ) (accepted : operateReason base wh
   abbrev operated : Served
   operated = operate base whetherSound w t o number k v
 
-  -- What the log's entries on the object say.
-  abbrev scanned : Option ℕ
-  scanned = blocker t requested (onObject o (s .log))
+  -- Whom the log's entries on the object make it wait for.
+  abbrev awaited : ℕ
+  awaited = owners t requested (onObject o (s .log))
 
-  pub responded : operated ≡ respond base w t o requested scanned
+  pub responded : operated ≡ respond base w t o requested awaited
   unfolding operate
   responded =
-      unless-accepted (operateReason base whetherSound w t o number k v) w [] (respond base w t o requested scanned)
+      unless-accepted (operateReason base whetherSound w t o number k v) w [] (respond base w t o requested awaited)
       accepted
+
+  -- The set that it is told to wait for is that of the owners, all below 64.
+  module _ (set count : ℕ) (said : operated .outcome .reply ≡ wait set count) where
+    pub awaits : set ≡ awaited
+    awaits =
+        waits-some w t o requested set count awaited .0 (ap (λ (r : Served). r .outcome .reply) (sym responded) ∙ said)
+        .0
+
+    pub awaited-below : set < 2 ^ 64
+    awaited-below =
+        subst⁻¹ (λ (x : ℕ). x < 2 ^ 64) awaits
+        (owners-below t requested o (s .log)
+        (all-map {P = λ (l : Logged). Live s (l .entry .transaction)} (λ l. live-below base w (l .entry .transaction))
+        (s .log) (operate-accepted base whetherSound w t o number k v accepted .sound .store .unsettled .live)))
 
   -- The answered request's entry.
   abbrev entryOf : Answer → Logged
   entryOf a = record { object = o; entry = record { transaction = t; operation = requested; answer = a } }
 
   module _ (a : Answer) (said : operated .outcome .reply ≡ answered a) where
-    passed : scanned ≡ none
-    passed = answered-none w t o requested scanned .0 (a, ap (λ (r : Served). r .outcome .reply) (sym responded) ∙ said)
+    passed : awaited ≡ 0
+    passed = answered-none w t o requested awaited .0 (a, ap (λ (r : Served). r .outcome .reply) (sym responded) ∙ said)
 
-    carriedThrough : operated ≡ respond base w t o requested none
+    carriedThrough : operated ≡ respond base w t o requested 0
     carriedThrough = responded ∙ ap (respond base w t o requested) passed
 
     pub replayed : a ≡ answerTo requested s o

@@ -1,8 +1,10 @@
 -- `replies::put_numbers`: each case's numbers.
 use native.Mathlib.Omega.{arith}
+use mathlib.Core.List.{[], _∷_}
 use borrow.Author.Needs.{needs}
+use Rattle.bitset.specs.Bitset.{members}
 use Rattle.text.specs.Laws.Putting.{nothing}
-use Rattle.replies.specs.Laws.Printing.{field-fits, two-fields, numbered}
+use Rattle.replies.specs.Laws.Printing.{field-fits, fields, numbered}
 use Rattle.replies.proofs.put_numbers.Statement.{statement}
 use Rattle.replies.proofs.put_numbers.Tie as tie
 
@@ -13,10 +15,10 @@ code-fits c κs =
     let a = c .before .before .before .before .before .before in
     field-fits (a .args .at) _ _ (omega (arith, c .before .known-told .given .0)) (omega (arith, a .pre .0))
 
-owner-fits : tie.Need-put-field-requires-3
-owner-fits c κs =
+count-fits : tie.Need-put-field-requires-3
+count-fits c κs =
     let a = c .before .before .before .before .before .before in
-    field-fits (a .args .at) _ _ (omega (arith, c .before .known-told2 .given .0)) (omega (arith, a .pre .0))
+    field-fits (a .args .at) _ _ (omega (arith, c .before .known-told2 .given .1 .0)) (omega (arith, a .pre .0))
 
 rows-fits : tie.Need-put-field-requires-4
 rows-fits c κs =
@@ -54,17 +56,22 @@ answered c =
     let code = c .before .before .before .before .before .before .put-field in
     let value = c .before .before .put-field2 in
     numbered _ (told .before .reply .given .1) (a .args .list .now)
-    (two-fields _ _
+    (fields _ (_ ∷ [])
     (field-fits (a .args .at) _ _ (omega (arith, told .known-told .given .0)) (omega (arith, a .pre .0)))
     (code .ensures .0) (value .ensures .0))
     (omega (arith, code .ensures .1, value .ensures .1))
 
 wait : tie.Need-returns-3
 wait c =
-    let a = c .before .before .before .before .before .before .before .before .before .args in
-    let put = c .before .before .put-field3 .ensures in
-    numbered _ (c .before .before .before .before .before .reply2 .given .1) (a .list .now) (put .0)
-    (omega (arith, put .1))
+    let told = c .before .before .before .before .before .before .before .before in
+    let a = told .before .before .before .before .before in
+    let count = c .before .before .before .before .before .before .put-field3 in
+    let owners = c .before .before .put-members in
+    numbered _ (told .before .reply2 .given .1) (a .args .list .now)
+    (fields _ (members _)
+    (field-fits (a .args .at) _ _ (omega (arith, told .known-told2 .given .1 .0)) (omega (arith, a .pre .0)))
+    (count .ensures .0) (owners .ensures .0))
+    (omega (arith, count .ensures .1, owners .ensures .1))
 
 counted : tie.Need-returns-8
 counted c =
@@ -110,7 +117,8 @@ put-numbers-spec =
     code-fits
     value-fits
     (λ c. search needs)
-    owner-fits
+    count-fits
+    (λ c κs. search needs)
     (λ c. search needs)
     (λ c. search needs)
     (λ c κs. search needs)

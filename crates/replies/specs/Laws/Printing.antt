@@ -1,11 +1,16 @@
 -- Numbers put behind a word, one after the other.
-use Prim.Native.Nat.{ℕ, suc, _+_, _*_, _^_, _≤_, _<_, min}
+use Prim.Native.Nat.{ℕ, zero, suc, _+_, _*_, _^_, _≤_, _<_, min}
 use mathlib.Core.Path.{_≡_, refl, sym, ap, _∙_, subst, subst⁻¹}
+use mathlib.Core.Bool.{true, false, not, _&&_}
 use mathlib.Core.List.{List, [], _∷_, _++_, append-assoc, append-nil}
 use native.Mathlib.Numerals.{add-one}
 use native.Mathlib.Omega.{arith}
+use lib.Dec.{eqb}
 use lib.ListN.{length, take, getD, length-append}
 use lib.Seq.{take-suc, take-all, take-length}
+use Rattle.operations.specs.Laws.Cases.{split}
+use Rattle.bitset.specs.Bitset.{has, Members, Lowest, membersFrom, members}
+use Rattle.bitset.specs.Laws.{lowest-first}
 use Rattle.store.specs.Laws.Words.{below}
 use Rattle.protocol.specs.Replies.{Reply, ok, answered, wait, finished, committed, circle, cancelled, counted, refused}
 use Rattle.text.specs.Text.{decimal}
@@ -39,11 +44,13 @@ field-put out at n {out₂ = out₂} {end₂ = end₂} fits space digits =
 pub field-fits : (at n room : ℕ) → n < 4_294_967_296 → at + 11 ≤ room → at + length (spaced (n ∷ [])) ≤ room
 field-fits at n room few fits = omega (arith, field-length 10 n (omega arith) (omega arith))
 
-pub two-fields : {out out₁ out₂ : List ℕ} {at end end₂ : ℕ} (a b : ℕ) → at + length (spaced (a ∷ [])) ≤ length out
-    → Put out at (spaced (a ∷ [])) out₁ end → Put out₁ end (spaced (b ∷ [])) out₂ end₂
-    → Put out at (spaced (a ∷ b ∷ [])) out₂ end₂
-two-fields {out} {out₂ = out₂} {at} {end₂ = end₂} a b fits first second =
-    subst⁻¹ (λ (text : List ℕ). Put out at text out₂ end₂) (fields-append (a ∷ []) (b ∷ [])) (then first fits second)
+-- A number, then others.
+pub fields : {out out₁ out₂ : List ℕ} {at end end₂ : ℕ} (a : ℕ) (others : List ℕ)
+    → at + length (spaced (a ∷ [])) ≤ length out
+    → Put out at (spaced (a ∷ [])) out₁ end → Put out₁ end (spaced others) out₂ end₂
+    → Put out at (spaced (a ∷ others)) out₂ end₂
+fields {out} {out₂ = out₂} {at} {end₂ = end₂} a others fits first second =
+    subst⁻¹ (λ (text : List ℕ). Put out at text out₂ end₂) (fields-append (a ∷ []) others) (then first fits second)
 
 -- What the digits ask for, once the space is put.
 pub digits-fit : (out : List ℕ) (at n : ℕ) {out₁ : List ℕ} {end : ℕ} → at + length (spaced (n ∷ [])) ≤ length out
@@ -112,10 +119,89 @@ whole {out₀} {at} {list} {out} {end} count so = (
   omega (arith, so .done .behind, so .short),
 )
 
+-- ---- The members of a set, the lowest first
+
+-- Each is below 64: a space and two digits at most.
+length-from : (n h s : ℕ) → h + n ≤ 64 → length (spaced (membersFrom n h s)) ≤ 3 * n
+unfolding membersFrom
+length-from zero h s few = omega arith
+length-from (suc n) h s few =
+    let rest : List ℕ = membersFrom n (suc h) s in
+    let later : length (spaced rest) ≤ 3 * n = length-from n (suc h) s (omega arith) in
+    let more : length (spaced (h ∷ rest)) ≤ 3 * suc n =
+    omega (
+      arith,
+      later,
+      field-length 2 h (omega arith) (omega arith),
+      ap length (fields-append (h ∷ []) rest),
+      length-append (spaced (h ∷ [])) (spaced rest),
+    ) in
+    split (has s h) (λ (b : has s h ≡ true). rw b more) (λ (b : has s h ≡ false). rw b (omega (arith, later)))
+
+length-members : (s : ℕ) → length (spaced (members s)) ≤ 192
+unfolding members
+length-members s = length-from 64 0 s (omega arith)
+
+nobody : members 0 ≡ []
+unfolding members membersFrom has
+nobody = refl
+
+-- Of a set's members all but those left are put.
+pub record Walked (out₀ : List ℕ) (at set : ℕ) (out : List ℕ) (end left : ℕ) : Type 0 where
+  pub text : List ℕ
+  pub done : Put out₀ at text out end
+  pub all : text ++ spaced (members left) ≡ spaced (members set)
+
+pub walk-start : (out : List ℕ) (at set : ℕ) → Walked out at set out at set
+walk-start out at set = record { text = []; done = nothing out at; all = refl }
+
+module _ {out₀ : List ℕ} {at set : ℕ} {out : List ℕ} {end left : ℕ} (so : Walked out₀ at set out end left)
+    (fits : at + 192 ≤ length out₀) where
+  put-length : length (so .text) + length (spaced (members left)) ≤ 192
+  put-length =
+      omega (arith, length-append (so .text) (spaced (members left)), ap length (so .all), length-members set)
+
+  pub walk-kept : length out ≡ length out₀
+  walk-kept = ap length (so .done .buffer) ∙ length-put out₀ at (so .text) (omega (arith, put-length))
+
+  pub walk-end : left ≡ 0 → Put out₀ at (spaced (members set)) out end × (end ≤ at + 192)
+  walk-end none =
+      let nothing-left : members left ≡ [] = ap members none ∙ nobody in
+      let put = subst (λ (x : List ℕ). Put out₀ at x out end)
+      (sym (append-nil (so .text)) ∙ ap (λ (l : List ℕ). so .text ++ spaced l) (sym nothing-left) ∙ so .all)
+      (so .done) in
+      (put, omega (arith, so .done .behind, put-length))
+
+  module _ (t rest : ℕ) (lowest : Lowest left t) (others : Members rest (λ h. has left h && not (eqb h t))) where
+    first-put : spaced (members left) ≡ spaced (t ∷ []) ++ spaced (members rest)
+    first-put = ap spaced (lowest-first left rest t lowest others) ∙ fields-append (t ∷ []) (members rest)
+
+    pub first-fits : end + length (spaced (t ∷ [])) ≤ length out
+    first-fits =
+        omega (
+          arith,
+          walk-kept,
+          put-length,
+          so .done .behind,
+          ap length first-put,
+          length-append (spaced (t ∷ [])) (spaced (members rest)),
+        )
+
+    pub walk-on : {out₁ : List ℕ} {end₁ : ℕ} → Put out end (spaced (t ∷ [])) out₁ end₁
+        → Walked out₀ at set out₁ end₁ rest
+    walk-on put =
+        record {
+          text = so .text ++ spaced (t ∷ []);
+          done = then (so .done) (omega (arith, put-length)) put;
+          all =
+              append-assoc (so .text) (spaced (t ∷ [])) (spaced (members rest))
+              ∙ ap (λ (x : List ℕ). so .text ++ x) (sym first-put) ∙ so .all;
+        }
+
 pub word-length : (r : Reply) → length (wordOf r) ≤ 9
 word-length ok = omega arith
 word-length (answered reply) = omega arith
-word-length (wait owner) = omega arith
+word-length (wait owners count) = omega arith
 word-length finished = omega arith
 word-length (committed count) = omega arith
 word-length (circle count) = omega arith

@@ -44,26 +44,28 @@ within c = kind-below base (start c .args .book .now) (start c .args .object) _ 
 request-requires : tie.Need-request-requires
 request-requires c κs = let a = start c .args in numbered (a .operation) (a .key) (a .value) _ (is-accepted c .named)
 
-blocker-requires : tie.Need-blocker-requires
-blocker-requires c κs =
+owners-requires : tie.Need-owners-requires
+owners-requires c κs =
     let past = c .before .before in
-    let a = is-accepted past in (
-      a .sound .packed,
-      a .sound .store .unsettled .live,
-      a .sound .store .unsettled .fits,
-      within past,
-      (requested past, c .before .request .ensures, a .kind),
-    )
+    let a = is-accepted past in
+    record {
+      packed = a .sound .packed;
+      live = a .sound .store .unsettled .live;
+      fits = a .sound .store .unsettled .fits;
+      below = within past;
+      kinded = (requested past, c .before .request .ensures, a .kind);
+    }
 
 waits : tie.Need-returns-2
 waits c =
-    let asked = c .before .before .before in
+    let scanned = c .before .before in
+    let asked = scanned .before .before in
     let past = asked .before in
     let a = start past .args in
     operate-waits (a .book .now) (a .transaction) (a .object) (a .operation) (a .key) (a .value) _
     (past .before .operate .ensures (a .key) (a .value))
     (past .if1 .left)
-    _ (c .before .blocker .ensures (requested past) (asked .request .ensures)) (c .if2 .taken)
+    _ _ (scanned .owners .ensures (requested past) (asked .request .ensures)) (c .before .if2 .taken) (c .size .ensures)
 
 answer-requires : tie.Need-answer-requires
 answer-requires c κs =
@@ -99,8 +101,8 @@ answers : tie.Need-returns-3
 answers c =
     let appended = c .before .before in
     let answered = appended .before .before in
-    let blocked = answered .before .before .before .before in
-    let request = blocked .before .before in
+    let scanned = answered .before .before .before .before in
+    let request = scanned .before .before in
     let past = request .before in
     let a = start past .args in
     let stored = request .request .ensures in
@@ -114,7 +116,7 @@ answers c =
     operate-answers (a .book .now) (a .transaction) (a .object) (a .operation) (a .key) (a .value) _
     (past .before .operate .ensures (a .key) (a .value))
     (past .if1 .left)
-    _ (blocked .blocker .ensures o stored) (answered .before .before .before .if2 .left)
+    _ (scanned .owners .ensures o stored) (answered .before .before .before .if2 .left)
     (answerOf (answered .answer .result)) given
     _ (appended .append .ensures o stored)
 
@@ -126,7 +128,8 @@ operate-spec =
     (λ c. search needs)
     refused
     request-requires
-    blocker-requires
+    owners-requires
+    (λ c κs. search needs)
     (λ c. search needs)
     waits
     (λ c κs. search needs)

@@ -3,7 +3,7 @@ use Prim.Native.Nat.{ℕ, zero, suc, _+_, _*_, _≤_, _<_}
 use mathlib.Core.Path.{_≡_, refl, sym, ap, ap₂, _∙_}
 use mathlib.Core.Bool.{Bool, true, false, decide}
 use mathlib.Core.Logic.{_↔_}
-use mathlib.Core.Option.{Option, none, some, Option·none-ne-some}
+use mathlib.Core.Option.{none, some, Option·none-ne-some}
 use mathlib.Core.List.{List, [], _∷_, map}
 use native.Mathlib.Omega.{arith}
 use lib.ListN.{length, take, drop, List·getD-eq-default}
@@ -21,8 +21,7 @@ use Rattle.store.specs.Laws.Reading.{kind-below}
 use Rattle.store.specs.Laws.Words.{below}
 use Rattle.store.specs.Laws.Deciding.{decided}
 use Rattle.statuses.specs.Laws.Words.{finished-read}
-use Rattle.layout.specs.Nobody.{Names}
-use Rattle.layout.specs.Laws.{names-nobody, names-somebody}
+use Rattle.bitset.specs.Bitset.{size}
 use Rattle.log.specs.Log.{logged, StoredAs}
 use Rattle.answers.specs.Answers.{Requested}
 use Rattle.answers.specs.Laws.Whole.{rows-read}
@@ -89,46 +88,50 @@ asks w t o number k v operation a stored =
       entries = entries-fit (decode base w) o (kindOf requested) (a .kind) (decode base w .log) (s .fits) (s .reduced);
     }
 
-module _ (w : List ℕ) (t o : ℕ) (requested : Operation) (owner : ℕ) where
-  waits : (blocked : Option ℕ) → Names owner blocked → (owner ≡ 64 → ⊥)
-      → served w (outcome (wait owner) [] []) ≡ calls.respond base w t o requested blocked
-  waits blocked named other =
-      ap (calls.respond base w t o requested) (sym (names-somebody owner blocked named other .0))
+module _ (w : List ℕ) (t o : ℕ) (requested : Operation) where
+  waits : (set : ℕ) → (set ≡ 0 → ⊥)
+      → served w (outcome (wait set (size set)) [] []) ≡ calls.respond base w t o requested set
+  waits zero other = absurd (other refl)
+  waits (suc n) other = refl
 
-  answers : (blocked : Option ℕ) → Names owner blocked → owner ≡ 64 → (answer : Answer)
-      → answer ≡ calls.answerTo requested (decode base w) o
+  answers : (answer : Answer) → answer ≡ calls.answerTo requested (decode base w) o
       → (after : List ℕ) → after ≡ encode base (appended (logged t o requested answer) (decode base w))
-      → served after (outcome (answered answer) [] []) ≡ calls.respond base w t o requested blocked
-  answers blocked named free answer given after written =
+      → served after (outcome (answered answer) [] []) ≡ calls.respond base w t o requested 0
+  answers answer given after written =
       ap₂ (λ (x : List ℕ) (a : Answer). served x (outcome (answered a) [] []))
       (written ∙ ap (λ (a : Answer). encode base (appended (logged t o requested a) (decode base w))) given) given
-      ∙ ap (calls.respond base w t o requested) (sym (names-nobody owner blocked named free))
 
 module _ (w : List ℕ) (t o number k v reason : ℕ)
     (found : reason ≡ calls.operateReason base whetherSound w t o number k v) where
   abbrev requested : Operation
   requested = calls.request base number k v
 
-  abbrev blocked : Option ℕ
-  blocked = calls.blocker t requested (onObject o (decode base w .log))
+  abbrev owners : ℕ
+  owners = calls.owners t requested (onObject o (decode base w .log))
 
   pub operate-refused : (reason ≡ 0 → ⊥)
       → served w (outcome (refused reason) [] []) ≡ calls.operate base whetherSound w t o number k v
   unfolding calls.operate
   operate-refused applies = said-no _ reason found w [] _ applies
 
-  pub operate-waits : reason ≡ 0 → (owner : ℕ) → Names owner blocked → (owner ≡ 64 → ⊥)
-      → served w (outcome (wait owner) [] []) ≡ calls.operate base whetherSound w t o number k v
+  pub operate-waits : reason ≡ 0 → (set count : ℕ) → set ≡ owners → (set ≡ 0 → ⊥) → count ≡ size set
+      → served w (outcome (wait set count) [] []) ≡ calls.operate base whetherSound w t o number k v
   unfolding calls.operate
-  operate-waits e owner named other = waits w t o requested owner blocked named other ∙ accepted _ reason found w [] _ e
+  operate-waits e set count scanned other sized =
+      ap (λ (n : ℕ). served w (outcome (wait set n) [] [])) sized
+      ∙ waits w t o requested set other
+      ∙ ap (calls.respond base w t o requested) scanned
+      ∙ accepted _ reason found w [] _ e
 
-  pub operate-answers : reason ≡ 0 → (owner : ℕ) → Names owner blocked → owner ≡ 64 → (answer : Answer)
+  pub operate-answers : reason ≡ 0 → (set : ℕ) → set ≡ owners → set ≡ 0 → (answer : Answer)
       → answer ≡ calls.answerTo requested (decode base w) o
       → (after : List ℕ) → after ≡ encode base (appended (logged t o requested answer) (decode base w))
       → served after (outcome (answered answer) [] []) ≡ calls.operate base whetherSound w t o number k v
   unfolding calls.operate
-  operate-answers e owner named free answer given after written =
-      answers w t o requested owner blocked named free answer given after written ∙ accepted _ reason found w [] _ e
+  operate-answers e set scanned free answer given after written =
+      answers w t o requested answer given after written
+      ∙ ap (calls.respond base w t o requested) (sym free ∙ scanned)
+      ∙ accepted _ reason found w [] _ e
 
 -- The number of an operation is from 1 to 11.
 pub numbered : (number k v : ℕ) (o : Operation) → stored reduceKey number k v ≡ some o → Numbered number

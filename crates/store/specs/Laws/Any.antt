@@ -1,8 +1,11 @@
 -- Some element of a list is such.
+use mathlib.Core.Path.{_≡_}
+use mathlib.Core.Bool.{Bool, true, false}
 use mathlib.Core.Logic.{_↔_, _⊎_, inl, inr, ⊎-elim}
 use mathlib.Core.List.{List, [], _∷_, _++_}
 use Rattle.operations.specs.Operations.{All}
-use Rattle.operations.specs.Laws.Cases.{all-map}
+use Rattle.operations.specs.Log.{filter}
+use Rattle.operations.specs.Laws.Cases.{split, all-map}
 use Rattle.store.specs.Dependency.{Any}
 
 module _ {A : Type 0} where
@@ -26,3 +29,13 @@ module _ {A : Type 0} where
     ⊎-elim (λ p. inl (inl p)) (λ p. ⊎-elim (λ q. inl (inr q)) inr (any-append P l m .0 p)),
     ⊎-elim (⊎-elim inl (λ p. inr (any-append P l m .1 (inl p)))) (λ p. inr (any-append P l m .1 (inr p))),
   )
+
+  pub any-filter : (P : A → Type 0) (picked : A → Bool) (l : List A) → Any P (filter picked l)
+      → Any (λ (x : A). P x × (picked x ≡ true)) l
+  any-filter P picked [] p = p
+  any-filter P picked (x ∷ l) p =
+      split (picked x)
+      (λ (b : picked x ≡ true).
+      let either : P x ⊎ Any P (filter picked l) = rw b at p in
+      ⊎-elim (λ q. inl (q, b)) (λ q. inr (any-filter P picked l q)) either)
+      (λ (b : picked x ≡ false). inr (any-filter P picked l (rw b at p)))

@@ -1,29 +1,27 @@
 -- Who depends on whom when entries leave the log or one is put last.
 use Prim.Native.Nat.{ℕ}
 use mathlib.Core.Path.{_≡_, sym, _∙_}
-use mathlib.Core.Bool.{true, false}
+use mathlib.Core.Bool.{true, false, not}
 use mathlib.Core.Logic.{_↔_, _⊎_, inl, inr, ⊎-elim}
 use mathlib.Core.List.{List, [], _∷_, _++_}
-use borrow.Author.Tests.{eqb-true, eqb-false}
+use borrow.Author.Tests.{eqb-true, eqb-false, not-true}
 use lib.Dec.{eqb}
 use Rattle.operations.specs.Laws.Cases.{split}
 use Rattle.store.specs.Store.{Logged}
 use Rattle.store.specs.Dependency.{Any, Follows, Conflict, DependsOn}
 use Rattle.store.specs.Steps.{without}
-use Rattle.store.specs.Laws.Any.{any-some, any-map, any-append}
+use Rattle.store.specs.Laws.Any.{any-some, any-map, any-append, any-filter}
 
 -- ---- Entries that leave
 
 module _ (t : ℕ) (P : Logged → Type 0) where
   any-left : (log : List Logged) → Any P (without t log)
       → Any (λ (x : Logged). P x × (x .entry .transaction ≡ t → ⊥)) log
-  any-left [] p = p
-  any-left (l ∷ log) p =
-      split (eqb (l .entry .transaction) t)
-      (λ (e : eqb (l .entry .transaction) t ≡ true). inr (any-left log (rw e at p)))
-      (λ (e : eqb (l .entry .transaction) t ≡ false).
-      let q : P l ⊎ Any P (without t log) = rw e at p in
-      ⊎-elim (λ h. inl (h, eqb-false (l .entry .transaction) t e)) (λ h. inr (any-left log h)) q)
+  any-left log p =
+      any-map (λ (x : Logged). P x × (not (eqb (x .entry .transaction) t) ≡ true))
+      (λ (x : Logged). P x × (x .entry .transaction ≡ t → ⊥))
+      (λ x q. (q .0, eqb-false (x .entry .transaction) t (not-true _ (q .1)))) log
+      (any-filter P (λ (x : Logged). not (eqb (x .entry .transaction) t)) log p)
 
   any-stays : (log : List Logged)
       → Any (λ (x : Logged). P x × (x .entry .transaction ≡ t → ⊥)) log → Any P (without t log)

@@ -1,7 +1,7 @@
 -- The scan of the log for whom a request waits.
 use Prim.Native.Nat.{ℕ, _+_, _≤_, _<_}
-use mathlib.Core.Path.{_≡_, refl, sym, ap, ap₂, subst, _∙_}
-use mathlib.Core.Bool.{Bool, true, false, cond, _||_}
+use mathlib.Core.Path.{_≡_, refl, sym, ap, ap₂, _∙_}
+use mathlib.Core.Bool.{Bool, true, false, cond, _||_, or-false, or-assoc}
 use mathlib.Core.Option.{some, Option·some-injective}
 use mathlib.Core.List.{List, _∷_}
 use native.Mathlib.Omega.{arith}
@@ -12,82 +12,90 @@ use Rattle.operations.specs.declared.Operation.{Operation}
 use Rattle.operations.specs.PairRules.{recoverable}
 use Rattle.operations.specs.Laws.Cases.{split}
 use Rattle.operations.specs.Laws.Numbers.{Tells}
+use Rattle.operations.specs.Log.{Entry}
+use Rattle.bitset.specs.Bitset.{has, Members, including}
+use Rattle.bitset.specs.Laws.{included, no-member, same-members}
 use Rattle.store.specs.Store.{Object, Logged, Live, objectOf, onObject}
-use Rattle.store.specs.Layout.{word, decode, kindWord, entryStart, entryAt, operationAt, objectStart, Packed, base}
-use Rattle.store.specs.Soundness.{EntriesLive, EntriesFit}
+use Rattle.store.specs.Layout.{word, decode, kindWord, entryStart, entryAt, operationAt, objectStart, base}
 use Rattle.store.specs.Laws.Lists.{all-each}
 use Rattle.store.specs.Laws.Entries.{entriesFrom, log-here, entries-end}
 use Rattle.store.specs.Laws.Objects.{kind-written}
 use Rattle.store.specs.Laws.Reading.{object-read, live-below}
 use Rattle.log.specs.Log.{StoredAs}
-use Rattle.layout.specs.Nobody.{Names}
-use Rattle.protocol.specs.Calls.{blocker}
+use Rattle.protocol.specs.Calls.{owners}
+use Rattle.waits.specs.Waits.{Asked}
 use Rattle.waits.specs.Laws.Rules.{one-named, Pair}
 
--- Scanned up to entry i: whom the request waits for is told by the entries from there on.
-pub record Scanning (w : List ℕ) (t object : ℕ) (requested : Operation) (i : ℕ) : Type 0 where
+-- Scanned up to entry i: all whom the request waits for are in the set, or owners of entries from there on.
+pub record Scanning (w : List ℕ) (t object : ℕ) (requested : Operation) (set i : ℕ) : Type 0 where
   pub within : i ≤ word w 0
   pub left : (o : model.Operation) → StoredAs requested o
-      → blocker t o (entriesFrom w object i) ≡ blocker t o (entriesFrom w object 0)
+      → Members (owners t o (entriesFrom w object 0)) (λ h. has set h || has (owners t o (entriesFrom w object i)) h)
 
--- What blocker's contract grants.
-pub record Asked (w : List ℕ) (object : ℕ) (requested : Operation) : Type 0 where
-  pub packed : Packed base w
-  pub live : EntriesLive (decode base w)
-  pub fits : EntriesFit (decode base w)
-  pub below : object < 16
-  pub kinded : (o : model.Operation) × StoredAs requested o
-      × (objectOf (decode base w) object .kind ≡ some (model.kindOf o))
+pub scan-start : (w : List ℕ) (t object : ℕ) (requested : Operation) → Scanning w t object requested 0 0
+scan-start w t object requested =
+    record {
+      within = omega arith;
+      left = λ o s h. sym (ap (λ (b : Bool). b || has (owners t o (entriesFrom w object 0)) h) (no-member h));
+    }
 
-pub scan-start : (w : List ℕ) (t object : ℕ) (requested : Operation) → Scanning w t object requested 0
-scan-start w t object requested = record { within = omega arith; left = λ o s. refl }
-
-pub scan-end : (w : List ℕ) (t object : ℕ) (requested : Operation) (i : ℕ)
-    → Scanning w t object requested i → word w 0 ≤ i
-    → (o : model.Operation) → StoredAs requested o → Names 64 (blocker t o (onObject object (decode base w .log)))
-scan-end w t object requested i s l o a =
-    subst (Names 64) (ap (blocker t o) (sym (entries-end w i object l)) ∙ s .left o a) refl
+pub scan-end : (w : List ℕ) (t object : ℕ) (requested : Operation) (set i : ℕ)
+    → Scanning w t object requested set i → word w 0 ≤ i
+    → (o : model.Operation) → StoredAs requested o → set ≡ owners t o (onObject object (decode base w .log))
+scan-end w t object requested set i s l o a =
+    same-members set (owners t o (entriesFrom w object 0)) (λ h.
+    sym (s .left o a h
+    ∙ ap (λ (es : List (Entry model.Operation model.Answer)). has set h || has (owners t o es) h)
+    (entries-end w i object l)
+    ∙ ap (λ (b : Bool). has set h || b) (no-member h) ∙ or-false (has set h)))
 
 -- ---- At an entry
 
-pub record AtEntry (w : List ℕ) (t object : ℕ) (requested : Operation) (i owner on : ℕ) : Type 0 where
+pub record AtEntry (w : List ℕ) (t object : ℕ) (requested : Operation) (set i owner on : ℕ) : Type 0 where
   pub asked : Asked w object requested
-  pub state : Scanning w t object requested i
+  pub state : Scanning w t object requested set i
   pub inside : i < word w 0
   pub owned : owner ≡ word w (entryStart i)
   pub placed : on ≡ word w (entryStart i + 1)
 
-module _ {w : List ℕ} {t object : ℕ} {requested : Operation} {i owner on : ℕ}
-    (at : AtEntry w t object requested i owner on) where
-  -- The entry is passed or tells, by the tests of its object and of its owner.
-  told : (o : model.Operation) (here own : Bool) → eqb on object ≡ here
+module _ {w : List ℕ} {t object : ℕ} {requested : Operation} {set i owner on : ℕ}
+    (at : AtEntry w t object requested set i owner on) where
+  -- The owners from here on, and past the entry.
+  abbrev here : model.Operation → ℕ
+  here o = owners t o (entriesFrom w object i)
+
+  abbrev past : model.Operation → ℕ
+  past o = owners t o (entriesFrom w object (i + 1))
+
+  -- The entry is passed or adds its owner, by the tests of its object and of its owner.
+  told : (o : model.Operation) (of own : Bool) → eqb on object ≡ of
       → (eqb owner t || recoverable o (operationAt w i)) ≡ own
-      → blocker t o (entriesFrom w object i)
-      ≡ cond here (cond own (blocker t o (entriesFrom w object (i + 1))) (some owner))
-      (blocker t o (entriesFrom w object (i + 1)))
-  told o here own h b =
-      ap (λ l. blocker t o (onObject object l)) (log-here w i (at .inside))
-      ∙ ap (λ (c : Bool). blocker t o
+      → here o ≡ cond of (cond own (past o) (including owner (past o))) (past o)
+  told o of own h b =
+      ap (λ l. owners t o (onObject object l)) (log-here w i (at .inside))
+      ∙ ap (λ (c : Bool). owners t o
       (cond c (entryAt w i .entry ∷ entriesFrom w object (i + 1)) (entriesFrom w object (i + 1))))
       (ap (λ (m : ℕ). eqb m object) (sym (at .placed)) ∙ h)
-      ∙ by here
+      ∙ by of
     where
-      by : (c : Bool) → blocker t o
+      by : (c : Bool) → owners t o
           (cond c (entryAt w i .entry ∷ entriesFrom w object (i + 1)) (entriesFrom w object (i + 1)))
-          ≡ cond c (cond own (blocker t o (entriesFrom w object (i + 1))) (some owner))
-          (blocker t o (entriesFrom w object (i + 1)))
+          ≡ cond c (cond own (past o) (including owner (past o))) (past o)
       by true =
-          ap₂ (λ (c : Bool) (m : ℕ). cond c (blocker t o (entriesFrom w object (i + 1))) (some m))
+          ap₂ (λ (c : Bool) (m : ℕ). cond c (past o) (including m (past o)))
           (ap (λ (m : ℕ). eqb m t || recoverable o (operationAt w i)) (sym (at .owned)) ∙ b) (sym (at .owned))
       by false = refl
 
-  passed : ((o : model.Operation) → StoredAs requested o
-      → blocker t o (entriesFrom w object i) ≡ blocker t o (entriesFrom w object (i + 1)))
-      → Scanning w t object requested (i + 1)
-  passed e = record { within = omega (arith, at .inside); left = λ o s. sym (e o s) ∙ at .state .left o s }
+  passed : ((o : model.Operation) → StoredAs requested o → here o ≡ past o)
+      → Scanning w t object requested set (i + 1)
+  passed e =
+      record {
+        within = omega (arith, at .inside);
+        left = λ o s h. at .state .left o s h ∙ ap (λ (x : ℕ). has set h || has x h) (e o s);
+      }
 
   -- Its own entries and those of other objects don't count.
-  pub pass-own : owner ≡ t → Scanning w t object requested (i + 1)
+  pub pass-own : owner ≡ t → Scanning w t object requested set (i + 1)
   pass-own e =
       passed (λ o s.
       let own : (eqb owner t || recoverable o (operationAt w i)) ≡ true =
@@ -95,24 +103,37 @@ module _ {w : List ℕ} {t object : ℕ} {requested : Operation} {i owner on : �
       split (eqb on object) (λ (h : eqb on object ≡ true). told o true true h own)
       (λ (h : eqb on object ≡ false). told o false true h own))
 
-  pub pass-other : (on ≡ object → ⊥) → Scanning w t object requested (i + 1)
+  pub pass-other : (on ≡ object → ⊥) → Scanning w t object requested set (i + 1)
   pass-other n = passed (λ o s. told o false (eqb owner t || recoverable o (operationAt w i)) (ne-eqb on object n) refl)
+
+  -- Who owns an entry is live, and so below 64.
+  pub owner-below : owner < 64
+  owner-below =
+      let live = all-each (λ (l : Logged). Live (decode base w) (l .entry .transaction)) (word w 0) (entryAt w)
+      (at .asked .live) i (at .inside) in
+      omega (arith, at .owned, live-below base w (word w (entryStart i)) live)
 
   module _ (n : owner ≡ t → ⊥) (e : on ≡ object) where
     pub pass-recoverable : ((o : model.Operation) → StoredAs requested o → recoverable o (operationAt w i) ≡ true)
-        → Scanning w t object requested (i + 1)
+        → Scanning w t object requested set (i + 1)
     pass-recoverable r = passed (λ o s. told o true true (eq-eqb on object e) (ap₂ _||_ (ne-eqb owner t n) (r o s)))
 
-    -- The earliest that does names its owner, who is live and so below 64.
-    pub stop : ((o : model.Operation) → StoredAs requested o → recoverable o (operationAt w i) ≡ false)
-        → (o : model.Operation) → StoredAs requested o
-        → Names owner (blocker t o (onObject object (decode base w .log)))
-    stop r o s =
-        let first = told o true false (eq-eqb on object e) (ap₂ _||_ (ne-eqb owner t n) (r o s)) in
-        let live = all-each (λ (l : Logged). Live (decode base w) (l .entry .transaction)) (word w 0) (entryAt w)
-        (at .asked .live) i (at .inside) in
-        let below : owner < 64 = omega (arith, at .owned, live-below base w (word w (entryStart i)) live) in
-        subst (Names owner) (sym first ∙ at .state .left o s) (refl, below)
+    -- An entry that forces the wait adds its owner.
+    pub add-owner : ((o : model.Operation) → StoredAs requested o → recoverable o (operationAt w i) ≡ false)
+        → (one more : ℕ) → Members one (λ h. eqb h owner) → Members more (λ h. has set h || has one h)
+        → Scanning w t object requested more (i + 1)
+    add-owner r one more single union =
+        record {
+          within = omega (arith, at .inside);
+          left = λ o s h.
+              at .state .left o s h
+              ∙ ap (λ (x : ℕ). has set h || has x h)
+              (told o true false (eq-eqb on object e) (ap₂ _||_ (ne-eqb owner t n) (r o s)))
+              ∙ ap (λ (b : Bool). has set h || b)
+              (included owner (past o) h ∙ ap (λ (b : Bool). b || has (past o) h) (sym (single h)))
+              ∙ sym (or-assoc (has set h) (has one h) (has (past o) h))
+              ∙ ap (λ (b : Bool). b || has (past o) h) (sym (union h));
+        }
 
   -- ---- The two operations are of the object's kind, which its word tells
 
