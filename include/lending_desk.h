@@ -68,7 +68,7 @@ enum {
     LENDING_DESK_BOOK_LENGTH = 1,     /* the book isn't LENDING_DESK_WORDS words long */
     LENDING_DESK_LIST_LENGTH = 2,     /* the list is shorter than LENDING_DESK_LIST */
     LENDING_DESK_BAD_KINDS = 3,       /* the kinds aren't LENDING_DESK_OBJECTS bytes, or one is above 3 */
-    LENDING_DESK_UNSOUND = 4,         /* the book isn't sound: no list of calls leaves one so */
+    LENDING_DESK_UNSOUND = 4,         /* the book isn't sound; no call makes a sound one so */
     LENDING_DESK_HANDOUT_NUMBER = 5,  /* the handout's number is above 63 */
     LENDING_DESK_HANDOUT_LIVE = 6,    /* begin names a handout that is open or finished */
     LENDING_DESK_NOT_OPEN = 7,        /* the handout isn't open */
@@ -84,8 +84,8 @@ typedef struct {
     uint32_t refusal;
 } lending_desk_accepted;
 
-/* The owners of a wait are a set of handouts: handout h is in it where `owners >> h & 1` is 1, so h from 0 to 63 walks it
- * ascending. `count` is how many there are, at least one; the handout that asks is never among them. */
+/* The owners of a wait are a set of handouts: handout h is in it where `owners >> h & 1` is 1, so h from 0 to 63 walks
+ * it ascending. `count` is how many there are, at least one; the handout that asks is never among them. */
 typedef struct {
     uint32_t refusal;
     uint32_t code;   /* wait or answered */

@@ -24,7 +24,7 @@ step format whetherSound (finish t list) w = calls.finish format whetherSound w 
 step format whetherSound (cancel t list) w = calls.cancel format whetherSound w t list
 step format whetherSound (contents o) w = calls.contents format whetherSound w o
 
--- The desk of 01.
+-- The desk of 01, as the requests of 02 that have landed leave it.
 abbrev pub desk : Call → List ℕ → Served
 desk = step base whetherSound
 

@@ -84,7 +84,7 @@ pub record Places (d : Logged) (log : List Logged) (a b : ℕ) : Type 0 where
   pub owner : getD log earlier d .entry .transaction ≡ b
   pub own : getD log later d .entry .transaction ≡ a
   pub object : getD log later d .object ≡ getD log earlier d .object
-  pub apart : commutes (getD log later d .entry .operation) (getD log earlier d .entry .operation) ≡ false
+  pub conflicting : commutes (getD log later d .entry .operation) (getD log earlier d .entry .operation) ≡ false
 
 -- ---- Who commits
 

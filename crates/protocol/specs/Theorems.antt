@@ -205,7 +205,7 @@ module _ (w : List ℕ) (t o number k v : ℕ) (accepted : operateReason base wh
   operate-replayed a said =
       (protocol.replayed w t o number k v accepted a said, protocol.entered-last w t o number k v accepted a said)
 
-  -- Of the book's words an answered one changes eight: the number of entries, which goes up by one, and the seven
+  -- Of the book's words an answered one writes eight: the number of entries, which goes up by one, and the seven
   -- behind the entries that there were, which become the new entry's.
   pub operate-eight-words : (a : Answer) → operated .outcome .reply ≡ answered a
       → let after = operated .book in
@@ -337,10 +337,10 @@ module _ (s : Store) (r : Representable base s) (h : Unsettled base s) where
 -- Of finish and of cancel, where the reply counts those that committed.
 module _ (w : List ℕ) (t : ℕ) (list : List ℕ) (accepted : endReason base whetherSound w t list ≡ 0) (r : Served)
     (call : (r ≡ finish base whetherSound w t list) ⊎ (r ≡ cancel base whetherSound w t list)) (n : ℕ)
-    (counted : (r .outcome .reply ≡ committed n) ⊎ (r .outcome .reply ≡ circle n)
+    (told : (r .outcome .reply ≡ committed n) ⊎ (r .outcome .reply ≡ circle n)
     ⊎ (r .outcome .reply ≡ cancelled n)) where
   abbrev left : EndLeaves (decode base w) t list r n
-  left = concluding.concludes w t list accepted n r counted call
+  left = concluding.concludes w t list accepted n r told call
 
   -- At the list's front stand exactly those that commit: the transaction itself, where it does, and each
   -- pseudo-committed one from which, once the transaction's entries are out of the log, no way of dependencies leads to

@@ -113,7 +113,7 @@ conflict-places d log a b = (
       (subst (Follows (Conflict a b)) (sym (tabulate-getD log d)) h)),
   λ p. subst (Follows (Conflict a b)) (tabulate-getD log d)
       (follows-of (Conflict a b) (length log) entry (p .earlier) (p .later) (p .inOrder) (p .within)
-      (p .own, p .owner, p .object, p .apart)),
+      (p .own, p .owner, p .object, p .conflicting)),
 )
   where
     entry : ℕ → Logged
@@ -129,7 +129,7 @@ conflict-places d log a b = (
           owner = c .1;
           own = c .0;
           object = c .2;
-          apart = c .3;
+          conflicting = c .3;
         }
 
 -- ---- Operate

@@ -1,7 +1,7 @@
 -- Which entries of an object's log make a request wait, and for whom.
 use Prim.Native.Nat.{ℕ, _^_, _<_}
-use mathlib.Core.Path.{_≡_, refl, sym, _∙_, subst, subst⁻¹}
-use mathlib.Core.Bool.{Bool, true, false, not, _||_, true≢false}
+use mathlib.Core.Path.{_≡_, refl, sym, ap, _∙_, subst, subst⁻¹}
+use mathlib.Core.Bool.{Bool, true, false, cond, not, _||_, true≢false}
 use mathlib.Core.Logic.{_↔_, _⊎_, inl, inr, ⊎-elim}
 use mathlib.Core.List.{List, [], _∷_}
 use borrow.Author.Tests.{eqb-false, ne-eqb, not-true}
@@ -42,13 +42,11 @@ module _ (t : ℕ) (requested : Operation) where
       (eqb-false (e .transaction) t (n .0), (refl, n .1))
 
   -- One that does adds no owner, another its own.
-  passed-by : (e : Entry Operation Answer) (l : List (Entry Operation Answer)) → lets e ≡ true
-      → owners t requested (e ∷ l) ≡ owners t requested l
-  passed-by e l h = cc
-
-  barred : (e : Entry Operation Answer) (l : List (Entry Operation Answer)) → lets e ≡ false
-      → owners t requested (e ∷ l) ≡ including (e .transaction) (owners t requested l)
-  barred e l h = cc
+  told : (e : Entry Operation Answer) (l : List (Entry Operation Answer)) (passed : Bool) → lets e ≡ passed
+      → owners t requested (e ∷ l)
+      ≡ cond passed (owners t requested l) (including (e .transaction) (owners t requested l))
+  told e l passed =
+      ap (λ (b : Bool). cond b (owners t requested l) (including (e .transaction) (owners t requested l)))
 
   -- The set's members are the owners.
   owned : (l : List (Entry Operation Answer)) → Holds (owners t requested l) (Owner t requested l)
@@ -56,7 +54,7 @@ module _ (t : ℕ) (requested : Operation) where
   owned (e ∷ l) =
       split (lets e)
       (λ (h : lets e ≡ true).
-      subst⁻¹ (λ (s : ℕ). Holds s (Owner t requested (e ∷ l))) (passed-by e l h)
+      subst⁻¹ (λ (s : ℕ). Holds s (Owner t requested (e ∷ l))) (told e l true h)
       (holds-same (Owner t requested l) (Owner t requested (e ∷ l)) (owners t requested l) (owned l) (λ u. (
         λ p. (p .0, inr (p .1)),
         λ p. (
@@ -66,7 +64,7 @@ module _ (t : ℕ) (requested : Operation) where
       ))))
       (λ (h : lets e ≡ false).
       let b = bars e h in
-      subst⁻¹ (λ (s : ℕ). Holds s (Owner t requested (e ∷ l))) (barred e l h)
+      subst⁻¹ (λ (s : ℕ). Holds s (Owner t requested (e ∷ l))) (told e l false h)
       (holds-same (λ u. (u ≡ e .transaction) ⊎ Owner t requested l u) (Owner t requested (e ∷ l))
       (including (e .transaction) (owners t requested l))
       (holds-including (Owner t requested l) (e .transaction) (owners t requested l) (owned l)) (λ u. (
@@ -79,8 +77,8 @@ module _ (t : ℕ) (requested : Operation) where
   none-owned (e ∷ l) =
       split (lets e)
       (λ (h : lets e ≡ true). (
-        λ n. (passes e .0 h, none-owned l .0 (sym (passed-by e l h) ∙ n)),
-        λ a. passed-by e l h ∙ none-owned l .1 (a .1),
+        λ n. (passes e .0 h, none-owned l .0 (sym (told e l true h) ∙ n)),
+        λ a. told e l true h ∙ none-owned l .1 (a .1),
       ))
       (λ (h : lets e ≡ false). (
         λ n. let b = bars e h in
