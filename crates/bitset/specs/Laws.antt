@@ -4,6 +4,7 @@ use mathlib.Core.Path.{_≡_, refl, sym, ap, ap₂, _∙_}
 use mathlib.Core.List.{List, _∷_}
 use mathlib.Core.Bool.{Bool, true, false, cond, not, _&&_, _||_, true≢false, false≢true, and-eq-true-iff}
 use mathlib.Core.Bool.{and-true, and-false}
+use mathlib.Mathlib.Data.Bool.Basic.{eq-false-of-not-eq-true}
 use mathlib.Core.Logic.{_↔_, _⊎_, inl, inr, ⊎-elim, Iff·trans, Iff·symm}
 use Prim.Native.Nat.{ℕ, zero, suc, _+_, _-_, _*_, _/_, _%_, _^_, _<_, _≤_}
 use native.Mathlib.Nat.{zero-lt-suc, not-suc-le-zero, lt-of-not-le, lt-of-lt-of-le, mod-lt, mod-eq-of-lt, one-mul}
@@ -250,14 +251,10 @@ holds-without P s t u p m b = (
   λ q. in-rest u s t m b .1 (p b .1 (q .0), q .1),
 )
 
-absent : (b : Bool) → (b ≡ true → ⊥) → b ≡ false
-absent true n = absurd (n refl)
-absent false n = refl
-
 -- A set that is 0 exactly where the predicate tells nobody.
 pub holds-empty : (P : ℕ → Type 0) (s : ℕ) → Holds s P → (s ≡ 0) ↔ ((b : ℕ) → P b → ⊥)
 holds-empty P s p =
-    (λ e b q. nobody-in s b e (p b .1 q), λ none. no-members s (λ b. absent (has s b) (λ m. none b (p b .0 m))))
+    (λ e b q. nobody-in s b e (p b .1 q), λ none. no-members s (λ b. eq-false-of-not-eq-true (λ m. none b (p b .0 m))))
 
 -- Members below 64 alone make a set of 64 bits.
 pub below-64 : (s : ℕ) → ((h : ℕ) → In s h → h < 64) → s < 2 ^ 64

@@ -2,6 +2,7 @@
 use Prim.Native.Nat.{ℕ, _^_, _<_}
 use mathlib.Core.Path.{_≡_, refl, sym, ap, _∙_, subst, subst⁻¹}
 use mathlib.Core.Bool.{Bool, true, false, cond, not, _||_, true≢false}
+use mathlib.Mathlib.Data.Bool.Basic.{or-eq-false-eq-eq-false-and-eq-false}
 use mathlib.Core.Logic.{_↔_, _⊎_, inl, inr, ⊎-elim}
 use mathlib.Core.List.{List, [], _∷_}
 use borrow.Author.Tests.{eqb-false, ne-eqb, not-true}
@@ -31,14 +32,10 @@ module _ (t : ℕ) (requested : Operation) where
         (λ (own : eqb (e .transaction) t ≡ false). rw own (p (eqb-false (e .transaction) t own))),
   )
 
-  neither : (a b : Bool) → (a || b) ≡ false → (a ≡ false) × (b ≡ false)
-  neither true b e = absurd (true≢false e)
-  neither false b e = (refl, e)
-
   -- An entry that does not let the request pass is another's, and bars it.
   bars : (e : Entry Operation Answer) → lets e ≡ false → (e .transaction ≡ t → ⊥) × Bars t requested (e .transaction) e
   bars e h =
-      let n = neither (eqb (e .transaction) t) (recoverable requested (e .operation)) h in
+      let n = or-eq-false-eq-eq-false-and-eq-false (eqb (e .transaction) t) _ .0 h in
       (eqb-false (e .transaction) t (n .0), (refl, n .1))
 
   -- One that does adds no owner, another its own.
