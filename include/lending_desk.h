@@ -5,7 +5,7 @@
  * leaves is fixed by a definition, and proved.
  *
  * What no call can test, and a program must see to: a pointer is not null, not even with length 0; what it points to is of at least the length
- * given, aligned for its type, and lent to one call at a time; book, kinds and list don't overlap.
+ * given, aligned for its type, and lent to one call at a time; book, kinds, operations and list don't overlap.
  */
 #ifndef LENDING_DESK_H
 #define LENDING_DESK_H
@@ -19,14 +19,16 @@ extern "C" {
 
 /* The version of book, calls and replies, for books and programs that outlive one version: 1 is the base's, and each
  * change request raises it. A macro, so that #if can ask for it. */
-#define LENDING_DESK_VERSION 2
+#define LENDING_DESK_VERSION 3
 
 enum {
-    LENDING_DESK_WORDS = 3937,  /* words of a book */
-    LENDING_DESK_HANDOUTS = 64, /* handouts 0 to 63 */
-    LENDING_DESK_OBJECTS = 16,  /* objects 0 to 15, each of a kind */
-    LENDING_DESK_LIST = 64,     /* bytes that the list lent to finish and cancel has at least */
-    LENDING_DESK_FRAME = 10240  /* bytes of stack that a call takes at the most: measured, and not proved */
+    LENDING_DESK_WORDS = 3937,        /* words of a book */
+    LENDING_DESK_HANDOUTS = 64,       /* handouts 0 to 63 */
+    LENDING_DESK_OBJECTS = 16,        /* objects 0 to 15, each of a kind */
+    LENDING_DESK_LIST = 64,           /* bytes that the list lent to finish and cancel has at least */
+    LENDING_DESK_BATCH = 16,          /* operations that a batch has at the most */
+    LENDING_DESK_OPERATION_WORDS = 4, /* words of each: object, operation, key or item, value */
+    LENDING_DESK_FRAME = 12288        /* bytes of stack that a call takes at the most: measured, and not proved */
 };
 
 /* Kinds of objects, for set up. */
@@ -55,14 +57,14 @@ enum {
 /* Reply codes. They mean something only where `refusal` is 0. */
 enum {
     LENDING_DESK_WAIT = 0,      /* entries of the handouts in `owners` force a wait; nothing was changed */
-    LENDING_DESK_ANSWERED = 1,  /* `answer` and `value` are the answer */
+    LENDING_DESK_ANSWERED = 1,  /* `answer` and `value` are the answer; of a batch, `answers` are its answers */
     LENDING_DESK_FINISHED = 2,  /* it depends on others, and commits when they have ended */
     LENDING_DESK_COMMITTED = 3, /* it committed, the first in the list */
     LENDING_DESK_CIRCLE = 4,    /* it lay on a circle of dependency, and was cancelled */
     LENDING_DESK_CANCELLED = 5
 };
 
-/* Refusals: the first that applies, in the order of their numbers. */
+/* Refusals: the first that applies, in the order of their numbers, but for 12, which comes after 5. */
 enum {
     LENDING_DESK_ACCEPTED = 0,
     LENDING_DESK_BOOK_LENGTH = 1,     /* the book isn't LENDING_DESK_WORDS words long */
@@ -74,8 +76,9 @@ enum {
     LENDING_DESK_NOT_OPEN = 7,        /* the handout isn't open */
     LENDING_DESK_NO_OBJECT = 8,       /* the object is above 15 or of no kind */
     LENDING_DESK_WRONG_OPERATION = 9, /* the operation isn't one of the object's kind */
-    LENDING_DESK_LOG_FULL = 10,       /* the log holds 256 entries */
-    LENDING_DESK_NO_ROOM = 11         /* rows plus logged pushes and inserts of the object are at 64 */
+    LENDING_DESK_LOG_FULL = 10,       /* the log holds 256 entries, or would hold more with the batch */
+    LENDING_DESK_NO_ROOM = 11,        /* rows plus pushes and inserts of the object, logged or before it, are at 64 */
+    LENDING_DESK_BATCH_LENGTH = 12    /* more than LENDING_DESK_BATCH operations, or a part of one */
 };
 
 /* A field that a reply has no number for is 0. */
@@ -94,6 +97,20 @@ typedef struct {
     uint32_t answer; /* the answer's code */
     uint32_t value;  /* the answer's value */
 } lending_desk_operated;
+
+/* An operation's answer. */
+typedef struct {
+    uint32_t code;
+    uint32_t value;
+} lending_desk_answer;
+
+typedef struct {
+    uint32_t refusal;
+    uint32_t code;   /* wait or answered */
+    uint64_t owners; /* of a wait: all whose entries force it for any of the operations, as above */
+    uint32_t count;  /* of a wait: how many they are; answered: how many answers there are */
+    lending_desk_answer answers[LENDING_DESK_BATCH]; /* in the order of the operations; those not used are 0 0 */
+} lending_desk_batched;
 
 typedef struct {
     uint32_t refusal;
@@ -117,6 +134,13 @@ lending_desk_accepted lending_desk_begin(uint32_t *book, size_t words, uint32_t 
  * doesn't use may be any number. Refusals: 1, 4, 5, 7, 8, 9, 10, 11. */
 lending_desk_operated lending_desk_operate(uint32_t *book, size_t words, uint32_t handout, uint32_t object, uint32_t operation, uint32_t key,
                                            uint32_t value);
+
+/* Answers operations of an open handout in order, each seeing those before it, and enters them in the log; or, where
+ * any of them must wait, says for whom and changes nothing. `operations` has LENDING_DESK_OPERATION_WORDS words for
+ * each, `length` words in all; a batch of none is answered with no answers. The first operation with an 8 or 9 of its
+ * own gives the number. Refusals: 1, 4, 5, 12, 7, 8, 9, 10, 11. */
+lending_desk_batched lending_desk_batch(uint32_t *book, size_t words, uint32_t handout, const uint32_t *operations,
+                                        size_t length);
 
 /* Finishes an open handout. Those that commit by it go to the front of the list in order of commitment, itself first where it does; the rest of the
  * list keeps its bytes. Refusals: 1, 2, 4, 5, 7. */

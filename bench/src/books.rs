@@ -20,9 +20,11 @@ const ROWS: usize = 32;
 /// Rows that an object has space for.
 const SPACE: usize = 64;
 
+const PUSH: u32 = 1;
+const SET_INSERT: u32 = 4;
 pub const INSERT: u32 = 7;
 pub const LOOKUP: u32 = 9;
-const MODIFY: u32 = 11;
+pub const MODIFY: u32 = 11;
 
 /// Keys of the table that no drawn operation names. The last isn't in it.
 const CHAINED: u32 = 100;
@@ -33,6 +35,11 @@ pub const NEW: u32 = 103;
 /// Where a handout's status stands.
 pub fn status(handout: u32) -> usize {
     1 + handout as usize
+}
+
+/// The operation that adds a row to an object of a kind.
+pub fn adding(kind: u8) -> u32 {
+    [PUSH, SET_INSERT, INSERT][usize::from(kind) - 1]
 }
 
 /// What the log of a book holds.
@@ -92,7 +99,7 @@ impl Desk {
     fn commit_rows(&mut self) {
         let named = [CHAINED, SHARED, MODIFIED];
         for (object, &kind) in (0..).zip(&KINDS) {
-            let operation = [1, 4, INSERT][usize::from(kind) - 1];
+            let operation = adding(kind);
             self.begin(0);
             for key in (0..).step_by(2).take(ROWS - named.len()).chain(named) {
                 assert!(self.operate(0, object, operation, key));
@@ -140,8 +147,8 @@ impl Desk {
         let handout = (turn + self.draws.below(5)).saturating_sub(2).min(HANDOUTS as usize - 1);
         let object = if log.spread { count % KINDS.len() } else { TABLE as usize };
         let (first, weights): (u32, &[usize]) = match KINDS[object] {
-            1 => (1, &[70, 20, 10]),
-            2 => (4, &[35, 25, 40]),
+            1 => (PUSH, &[70, 20, 10]),
+            2 => (SET_INSERT, &[35, 25, 40]),
             _ => (INSERT, &[10, 10, 45, 3, 32]),
         };
         let operation = first + self.draws.weighted(weights) as u32;

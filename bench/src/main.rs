@@ -12,6 +12,7 @@ mod scripts;
 mod stack;
 mod timing;
 
+use rows::{Prepared, Row};
 use timing::Times;
 
 fn main() {
@@ -30,14 +31,14 @@ fn main() {
 fn times(part: &str) {
     let rows: Vec<_> = rows::named(part).collect();
     let prepared: Vec<_> = rows.iter().map(|row| row.prepared()).collect();
-    let Times { calls, pass } = timing::times(&prepared);
+    let Times { calls, pass } = timing::times([calls::proved, calls::second], &prepared);
     let mut ratios = Vec::new();
     let mut print = |name: &str, [proved, second]: [f64; 2]| {
         let (ratio, passes) = (proved / second, proved / pass);
-        println!("{name:32}{proved:10.0}{second:10.0}{ratio:8.2}{passes:8.1}");
+        println!("{name:36}{proved:10.0}{second:10.0}{ratio:8.2}{passes:8.1}");
         ratios.push(ratio);
     };
-    println!("{:32}{:>10}{:>10}{:>8}{:>8}", "nanoseconds", "proved", "second", "ratio", "passes");
+    println!("{:36}{:>10}{:>10}{:>8}{:>8}", "nanoseconds", "proved", "second", "ratio", "passes");
     for (row, times) in rows.iter().zip(calls) {
         print(&row.name, times);
     }
@@ -51,14 +52,25 @@ fn times(part: &str) {
     let worst = ratios.iter().copied().fold(0.0, f64::max);
     let mean = (ratios.iter().map(|ratio| ratio.ln()).sum::<f64>() / ratios.len() as f64).exp();
     println!("worst ratio {worst:.2}, mean ratio {mean:.2}; one pass {pass:.0}");
+    batches_beside_singles(rows.iter().zip(prepared).filter(|(row, _)| row.is_for_singles()));
+}
+
+/// What a batch costs beside its operations made singly on the same book, both by the proved library.
+fn batches_beside_singles<'a>(rows: impl Iterator<Item = (&'a Row, Prepared)>) {
+    let (rows, prepared): (Vec<_>, Vec<_>) = rows.unzip();
+    let Times { calls, .. } = timing::times([calls::proved, calls::singly], &prepared);
+    for (row, [batch, singles]) in rows.iter().zip(calls) {
+        let ratio = batch / singles;
+        println!("{}: {batch:.0}, its operations singly {singles:.0}, ratio {ratio:.2}", row.name);
+    }
 }
 
 /// The table of stack used, in bytes. The header says how much a call takes at the most.
 fn stack(part: &str) {
-    println!("{:32}{:>10}{:>10}", "bytes of stack", "proved", "second");
+    println!("{:36}{:>10}{:>10}", "bytes of stack", "proved", "second");
     for row in rows::named(part) {
         let [proved, second] = stack::used(&row.prepared());
-        println!("{:32}{proved:10}{second:10}", row.name);
+        println!("{:36}{proved:10}{second:10}", row.name);
         assert!(proved <= lending_desk::FRAME, "{}: more stack than the header says", row.name);
     }
 }

@@ -1,6 +1,6 @@
 //! The rows of the table: a call, and the book that it is made on.
 
-use crate::books::{Log, ASKING, INSERT, KINDS, LOOKUP, MODIFIED, NEW, TABLE};
+use crate::books::{adding, Log, ASKING, INSERT, KINDS, LOOKUP, MODIFIED, MODIFY, NEW, TABLE};
 use crate::calls::{self, Call};
 
 /// A call on a book.
@@ -29,13 +29,40 @@ impl Row {
         let (one, other) = (outcome(calls::proved), outcome(calls::second));
         assert!(one == other, "{}: the replies are {:?} and {:?}", self.name, one.0, other.0);
         assert_eq!((one.0.refusal, one.0.code), (0, self.code), "{}", self.name);
-        Prepared { call: self.call, book }
+        if self.is_answered_batch() {
+            let singly = outcome(calls::singly);
+            assert!(one == singly, "{}: singly the reply is {:?} and not {:?}", self.name, singly.0, one.0);
+        }
+        Prepared { call: self.call.clone(), book }
+    }
+
+    fn is_answered_batch(&self) -> bool {
+        matches!(self.call, Call::Batch { .. }) && self.code == 1
+    }
+
+    /// Whether the row is one at which a batch is held to its operations made singly.
+    pub fn is_for_singles(&self) -> bool {
+        self.is_answered_batch() && self.log.entries == 64
     }
 }
 
 /// The rows that have `part` in their names.
 pub fn named(part: &str) -> impl Iterator<Item = Row> + '_ {
     rows().into_iter().filter(move |row| row.name.contains(part))
+}
+
+/// Sixteen operations of the one that asks: on the table an insert, and modifies and lookups that see those before
+/// them; on eight other objects a push or insert each. The last may be one that waits.
+fn batch(waits: bool) -> Call {
+    let table = [INSERT, LOOKUP, MODIFY, LOOKUP, MODIFY, LOOKUP, MODIFY, LOOKUP];
+    let on_table = table.into_iter().zip(9..).map(|(operation, value)| [TABLE, operation, NEW, value]);
+    let others = (TABLE + 1..).zip(&KINDS[TABLE as usize + 1..]).take(8);
+    let others = others.map(|(object, &kind)| [object, adding(kind), NEW, 9]);
+    let mut operations: Vec<[u32; 4]> = on_table.chain(others).collect();
+    if waits {
+        operations[15] = [TABLE, LOOKUP, MODIFIED, 0];
+    }
+    Call::Batch { handout: ASKING, operations: operations.concat() }
 }
 
 /// Each call at each log at which it can get that reply.
@@ -47,6 +74,8 @@ fn rows() -> Vec<Row> {
         ("operate, answered", operate(INSERT, NEW), 1),
         ("operate, wait", operate(LOOKUP, MODIFIED), 0),
         ("operate, wait for 63", operate(LOOKUP, MODIFIED), 0),
+        ("batch of 16, answered", batch(false), 1),
+        ("batch of 16, wait", batch(true), 0),
         ("finish, committed", Call::Finish { handout: 0 }, 3),
         ("finish, finished", Call::Finish { handout: 7 }, 2),
         ("finish, circle", Call::Finish { handout: 0 }, 4),
@@ -56,10 +85,14 @@ fn rows() -> Vec<Row> {
     let mut rows = Vec::new();
     for (name, call, code) in calls {
         let crowded = name == "operate, wait for 63";
-        let needs_entries = crowded || ["operate, wait", "finish, finished", "finish, circle"].contains(&name);
+        let needs_entries =
+            crowded || name.ends_with(", wait") || ["finish, finished", "finish, circle"].contains(&name);
         for (entries, spread) in [(0, false), (64, false), (256, false), (64, true), (256, true)] {
-            // At 256 entries operate is refused.
-            let entries = if matches!(call, Call::Operate { .. }) { entries.min(255) } else { entries };
+            let entries = match call {
+                Call::Operate { .. } => entries.min(255), // at 256 it is refused
+                Call::Batch { .. } => entries.min(240),   // and so is this above 240
+                _ => entries,
+            };
             if entries == 0 && needs_entries || spread && crowded {
                 continue;
             }
@@ -69,7 +102,7 @@ fn rows() -> Vec<Row> {
                 (_, true) => format!("{entries} over 16"),
             };
             let log = Log { entries, spread, circle: code == 4, crowded };
-            rows.push(Row { name: format!("{name}, {place}"), log, call, code });
+            rows.push(Row { name: format!("{name}, {place}"), log, call: call.clone(), code });
         }
     }
     rows

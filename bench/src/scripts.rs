@@ -59,7 +59,8 @@ impl Drawing<'_> {
             _ if open.is_empty() => format!("B {}", self.draws.pick(&absent)),
             13..=15 => self.end(&open),
             _ if full => self.end(&open),
-            _ => self.operation(&open),
+            16..=19 => self.batch(&open),
+            _ => format!("I {} {}", self.draws.pick(&open), self.operation()),
         }
     }
 
@@ -76,7 +77,13 @@ impl Drawing<'_> {
         format!("{letter} {}", self.draws.pick(open))
     }
 
-    fn operation(&mut self, open: &[u32]) -> String {
+    fn batch(&mut self, open: &[u32]) -> String {
+        let line = format!("G {}", self.draws.pick(open));
+        (0..2 + self.draws.below(7)).fold(line, |line, _| line + " " + &self.operation())
+    }
+
+    /// An operation's four numbers.
+    fn operation(&mut self) -> String {
         let object = self.draws.below(KINDS.len());
         let (first, weights): (usize, &[usize]) = match KINDS[object] {
             1 => (1, &[60, 25, 15]),
@@ -85,7 +92,7 @@ impl Drawing<'_> {
         };
         let operation = first + self.draws.weighted(weights);
         let key = if self.draws.percent(1) { self.anything() } else { self.draws.below(self.profile.keys) as u32 };
-        format!("I {} {object} {operation} {key} {}", self.draws.pick(open), self.draws.word())
+        format!("{object} {operation} {key} {}", self.draws.word())
     }
 }
 

@@ -14,16 +14,15 @@ const ROUND: f64 = 1e6;
 /// How many passes over a book are timed together, since one takes only a few of the clock's steps.
 const PASSES: usize = 64;
 
-/// Nanoseconds: of a call of each row, proved and second, and of one pass over a book.
+/// Nanoseconds: of a call of each row, by either side, and of one pass over a book.
 pub struct Times {
     pub calls: Vec<[f64; 2]>,
     pub pass: f64,
 }
 
-/// Medians of the rounds, in which the two implementations go first in turn. A round times every row, so that a while
-/// in which the machine is slow is no row's alone. The clock's own time is taken off.
-pub fn times(rows: &[Prepared]) -> Times {
-    let sides: [Serve; 2] = [calls::proved, calls::second];
+/// Medians of the rounds, in which the two sides go first in turn. A round times every row, so that a while in which
+/// the machine is slow is no row's alone. The clock's own time is taken off.
+pub fn times(sides: [Serve; 2], rows: &[Prepared]) -> Times {
     let calls: Vec<usize> =
         rows.iter().map(|row| (ROUND / median(timed(sides[0], row, 100))).ceil() as usize).collect();
     let mut rounds = vec![[Vec::new(), Vec::new()]; rows.len()];

@@ -4,11 +4,15 @@
 //! call that can't be served says why and changes nothing. What each call does is a definition, and that it does so is proved of the library
 //! beneath. This package only hands slices over and replies back; a slice is never null, so no null pointer gets there.
 
+use std::ops::Deref;
+
+pub use raw::Answer;
+
 pub mod raw;
 
 /// The version of book, calls and replies, for books and programs that outlive one version: 1 is the base's, and each
 /// change request raises it.
-pub const VERSION: u32 = 2;
+pub const VERSION: u32 = 3;
 
 /// Words of a book.
 pub const WORDS: usize = 3937;
@@ -22,8 +26,14 @@ pub const OBJECTS: usize = 16;
 /// The least length of the list lent to finish and cancel.
 pub const LIST: usize = 64;
 
+/// How many operations a batch has at the most.
+pub const BATCH: usize = 16;
+
+/// Words that an operation of a batch is handed over as.
+pub const OPERATION_WORDS: usize = 4;
+
 /// Bytes of stack that a call takes at the most: measured, and not proved. The library asks for no other memory.
-pub const FRAME: usize = 10_240;
+pub const FRAME: usize = 12_288;
 
 /// Why a call is refused, by number; `include/lending_desk.h` has the reasons.
 #[derive(Clone, Copy, Debug, PartialEq, Eq, PartialOrd, Ord, Hash)]
@@ -40,7 +50,49 @@ pub enum Operated {
     },
 }
 
-/// The handouts that an operation waits for, at least one: iterated, they ascend.
+/// An operation of a batch. An argument that it doesn't use may be any number.
+#[derive(Clone, Copy, Debug, PartialEq, Eq)]
+pub struct Operation {
+    pub object: u32,
+    pub operation: u32,
+    /// Key or item.
+    pub key: u32,
+    pub value: u32,
+}
+
+impl Operation {
+    /// As batch is lent it.
+    fn words(self) -> [u32; OPERATION_WORDS] {
+        let Operation { object, operation, key, value } = self;
+        [object, operation, key, value]
+    }
+}
+
+/// What batch replies.
+#[derive(Clone, Copy, Debug, PartialEq, Eq)]
+pub enum Batched {
+    /// Nothing was changed: entries of these handouts force a wait of one operation or of several.
+    Wait(Owners),
+    /// Every operation was answered.
+    Answered(Answers),
+}
+
+/// The answers to a batch, by value: a slice with one for each operation, in order.
+#[derive(Clone, Copy, Debug, PartialEq, Eq)]
+pub struct Answers {
+    answers: [Answer; BATCH],
+    count: usize,
+}
+
+impl Deref for Answers {
+    type Target = [Answer];
+
+    fn deref(&self) -> &[Answer] {
+        &self.answers[..self.count]
+    }
+}
+
+/// The handouts that an operation or a batch waits for, at least one: iterated, they ascend.
 #[derive(Clone, Copy, Debug, PartialEq, Eq)]
 pub struct Owners {
     set: u64,
@@ -127,6 +179,23 @@ pub fn operate(
     Ok(match reply.code {
         0 => Operated::Wait(Owners { set: reply.owners, count: reply.count }),
         _ => Operated::Answered { code: reply.answer, value: reply.value },
+    })
+}
+
+/// Answers operations of an open handout in order, each seeing those before it, and enters them in the log, unless any
+/// of them must wait. There are up to [`BATCH`].
+pub fn batch(book: &mut [u32], handout: u32, operations: &[Operation]) -> Result<Batched, Refusal> {
+    // Past the limit the library looks at the number alone, and one more tells it as well as all of them.
+    let mut words = [0; (BATCH + 1) * OPERATION_WORDS];
+    for (words, operation) in words.chunks_exact_mut(OPERATION_WORDS).zip(operations) {
+        words.copy_from_slice(&operation.words());
+    }
+    let length = operations.len().min(BATCH + 1) * OPERATION_WORDS;
+    let reply = raw::batch(book, handout, &words[..length]);
+    accepted(reply.refusal)?;
+    Ok(match reply.code {
+        0 => Batched::Wait(Owners { set: reply.owners, count: reply.count }),
+        _ => Batched::Answered(Answers { answers: reply.answers, count: reply.count as usize }),
     })
 }
 

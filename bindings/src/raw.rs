@@ -1,15 +1,17 @@
 //! The proved library's functions and the structs that they return, as `include/lending_desk.h` declares them.
 
+use crate::BATCH;
+
 /// What set up and begin reply.
 #[repr(C)]
-#[derive(Clone, Copy, Debug, PartialEq, Eq)]
+#[derive(Clone, Copy, Debug, Default, PartialEq, Eq)]
 pub struct Accepted {
     pub refusal: u32,
 }
 
 /// What operate replies.
 #[repr(C)]
-#[derive(Clone, Copy, Debug, PartialEq, Eq)]
+#[derive(Clone, Copy, Debug, Default, PartialEq, Eq)]
 pub struct Operated {
     pub refusal: u32,
     pub code: u32,
@@ -19,9 +21,28 @@ pub struct Operated {
     pub value: u32,
 }
 
+/// An operation's answer.
+#[repr(C)]
+#[derive(Clone, Copy, Debug, Default, PartialEq, Eq)]
+pub struct Answer {
+    pub code: u32,
+    pub value: u32,
+}
+
+/// What batch replies.
+#[repr(C)]
+#[derive(Clone, Copy, Debug, Default, PartialEq, Eq)]
+pub struct Batched {
+    pub refusal: u32,
+    pub code: u32,
+    pub owners: u64,
+    pub count: u32,
+    pub answers: [Answer; BATCH],
+}
+
 /// What finish and cancel reply.
 #[repr(C)]
-#[derive(Clone, Copy, Debug, PartialEq, Eq)]
+#[derive(Clone, Copy, Debug, Default, PartialEq, Eq)]
 pub struct Ended {
     pub refusal: u32,
     pub code: u32,
@@ -30,7 +51,7 @@ pub struct Ended {
 
 /// Where the part that contents hands back starts, and how many rows it has.
 #[repr(C)]
-#[derive(Clone, Copy, Debug, PartialEq, Eq)]
+#[derive(Clone, Copy, Debug, Default, PartialEq, Eq)]
 pub struct Part {
     pub refusal: u32,
     pub start: u32,
@@ -38,7 +59,7 @@ pub struct Part {
 }
 
 mod linked {
-    use super::{Accepted, Ended, Operated, Part};
+    use super::{Accepted, Batched, Ended, Operated, Part};
 
     extern "C" {
         pub fn lending_desk_set_up(book: *mut u32, words: usize, kinds: *const u8, count: usize) -> Accepted;
@@ -52,6 +73,13 @@ mod linked {
             key: u32,
             value: u32,
         ) -> Operated;
+        pub fn lending_desk_batch(
+            book: *mut u32,
+            words: usize,
+            handout: u32,
+            operations: *const u32,
+            length: usize,
+        ) -> Batched;
         pub fn lending_desk_finish(book: *mut u32, words: usize, handout: u32, list: *mut u8, length: usize) -> Ended;
         pub fn lending_desk_cancel(book: *mut u32, words: usize, handout: u32, list: *mut u8, length: usize) -> Ended;
         pub fn lending_desk_contents(book: *const u32, words: usize, object: u32) -> Part;
@@ -70,6 +98,12 @@ pub fn begin(book: &mut [u32], handout: u32) -> Accepted {
 
 pub fn operate(book: &mut [u32], handout: u32, object: u32, operation: u32, key: u32, value: u32) -> Operated {
     unsafe { linked::lending_desk_operate(book.as_mut_ptr(), book.len(), handout, object, operation, key, value) }
+}
+
+/// Four words an operation, in whatever number.
+pub fn batch(book: &mut [u32], handout: u32, operations: &[u32]) -> Batched {
+    let (words, length) = (operations.as_ptr(), operations.len());
+    unsafe { linked::lending_desk_batch(book.as_mut_ptr(), book.len(), handout, words, length) }
 }
 
 pub fn finish(book: &mut [u32], handout: u32, list: &mut [u8]) -> Ended {

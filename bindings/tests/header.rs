@@ -8,14 +8,16 @@ use std::process::{Command, Output};
 use std::ptr::addr_of;
 
 use common::{built, printed, run};
-use lending_desk::raw::{Accepted, Ended, Operated, Part};
+use lending_desk::raw::{Accepted, Answer, Batched, Ended, Operated, Part};
 
-const NUMBERS: [(&str, usize); 39] = [
+const NUMBERS: [(&str, usize); 42] = [
     ("VERSION", lending_desk::VERSION as usize),
     ("WORDS", lending_desk::WORDS),
     ("HANDOUTS", lending_desk::HANDOUTS),
     ("OBJECTS", lending_desk::OBJECTS),
     ("LIST", lending_desk::LIST),
+    ("BATCH", lending_desk::BATCH),
+    ("OPERATION_WORDS", lending_desk::OPERATION_WORDS),
     ("FRAME", lending_desk::FRAME),
     ("NONE", 0),
     ("STACK", 1),
@@ -50,6 +52,7 @@ const NUMBERS: [(&str, usize); 39] = [
     ("WRONG_OPERATION", 9),
     ("LOG_FULL", 10),
     ("NO_ROOM", 11),
+    ("BATCH_LENGTH", 12),
 ];
 
 /// A struct of the wrapper: the header's name for it, its size, and the offsets of its fields.
@@ -57,25 +60,34 @@ type Layout = (&'static str, usize, Vec<(&'static str, usize)>);
 
 macro_rules! layout {
     ($name:literal, $type:ident { $($field:ident),* }) => {{
-        let value = $type { $($field: 0),* };
+        let value = $type::default();
+        let $type { $($field: _),* } = value; // these are all of its fields
         let offsets = vec![$((stringify!($field), addr_of!(value.$field) as usize - addr_of!(value) as usize)),*];
         ($name, size_of::<$type>(), offsets)
     }};
 }
 
-fn layouts() -> [Layout; 4] {
+fn layouts() -> [Layout; 6] {
     [
         layout!("lending_desk_accepted", Accepted { refusal }),
         layout!("lending_desk_operated", Operated { refusal, code, owners, count, answer, value }),
+        layout!("lending_desk_answer", Answer { code, value }),
+        layout!("lending_desk_batched", Batched { refusal, code, owners, count, answers }),
         layout!("lending_desk_ended", Ended { refusal, code, count }),
         layout!("lending_desk_part", Part { refusal, start, rows }),
     ]
 }
 
+/// Where the last answer to a batch stands: 20 bytes are before the first.
+const LAST_ANSWER: [(&str, usize); 2] =
+    [("answers[LENDING_DESK_BATCH - 1].code", 20 + 15 * 8), ("answers[LENDING_DESK_BATCH - 1].value", 20 + 15 * 8 + 4)];
+
 /// Expressions of C, and what they must be when compiled.
 fn expectations() -> Vec<(String, usize)> {
     let mut expected = vec![("sizeof(size_t)".to_string(), size_of::<usize>())];
     expected.extend(NUMBERS.map(|(name, number)| (format!("LENDING_DESK_{name}"), number)));
+    let answers = LAST_ANSWER.map(|(place, offset)| (format!("offsetof(lending_desk_batched, {place})"), offset));
+    expected.extend(answers);
     for (name, size, offsets) in layouts() {
         expected.push((format!("sizeof({name})"), size));
         expected.extend(offsets.into_iter().map(|(field, offset)| (format!("offsetof({name}, {field})"), offset)));
@@ -83,7 +95,7 @@ fn expectations() -> Vec<(String, usize)> {
     expected
 }
 
-/// A program that compiles only where the expectations hold, and ends well where set up accepts.
+/// A program that compiles only where the expectations hold, and ends well where a batch of two is answered.
 fn program(expectations: &[(String, usize)]) -> String {
     let mut text = "#include \"lending_desk.h\"\n#if LENDING_DESK_VERSION < 1\n#error no version\n#endif\n".to_string();
     for (number, (expression, expected)) in expectations.iter().enumerate() {
@@ -91,8 +103,15 @@ fn program(expectations: &[(String, usize)]) -> String {
     }
     text + "static uint32_t book[LENDING_DESK_WORDS];\n\
         static const uint8_t kinds[LENDING_DESK_OBJECTS] = {1, 2, 3};\n\
+        static const uint32_t operations[2 * LENDING_DESK_OPERATION_WORDS] = {0, 1, 7, 0, 0, 3, 0, 0};\n\
         int main(void) {\n\
-            return (int)lending_desk_set_up(book, LENDING_DESK_WORDS, kinds, LENDING_DESK_OBJECTS).refusal;\n\
+            lending_desk_batched reply;\n\
+            lending_desk_set_up(book, LENDING_DESK_WORDS, kinds, LENDING_DESK_OBJECTS);\n\
+            lending_desk_begin(book, LENDING_DESK_WORDS, 63);\n\
+            reply = lending_desk_batch(book, LENDING_DESK_WORDS, 63, operations, 2 * LENDING_DESK_OPERATION_WORDS);\n\
+            return !(reply.refusal == 0 && reply.code == LENDING_DESK_ANSWERED && reply.owners == 0 &&\n\
+                     reply.count == 2 && reply.answers[0].code == 1 && reply.answers[0].value == 0 &&\n\
+                     reply.answers[1].code == 1 && reply.answers[1].value == 7 && reply.answers[15].code == 0);\n\
         }\n"
 }
 

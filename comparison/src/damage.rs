@@ -2,14 +2,20 @@
 
 use reference::call::Call;
 
+use crate::batches::OPERATION;
 use crate::common::draws::Draws;
-use crate::common::line_of;
+use crate::common::{line_of, BATCH_LIMIT};
 
 /// Bytes of which no call has one anywhere.
-const FOREIGN: &[u8] = b"\t\r\0\x0b\x1b+-.,_:/;bisfcexXAO\x7f\x80\xa0\xc2\xd9\xef\xff";
-/// Around the longest call, which has 177 bytes, and around what programs may read at once.
-const LENGTHS: [usize; 12] = [11, 64, 176, 177, 178, 179, 255, 256, 257, 1000, 4095, 4096];
+const FOREIGN: &[u8] = b"\t\r\0\x0b\x1b+-.,_:/;bigsfcexXAO\x7f\x80\xa0\xc2\xd9\xef\xff";
+/// Around the longest set up, which has 177 bytes, around the longest call, a batch of 716, and around what programs
+/// may read at once.
+const LENGTHS: [usize; 16] = [11, 64, 176, 177, 178, 179, 255, 256, 257, 715, 716, 717, 718, 1000, 4095, 4096];
 const TEN_DIGITS: usize = 10;
+/// The most numbers of a set up.
+const MOST_KINDS: usize = 16;
+/// The most numbers of a batch: a transaction's and those of its operations.
+const MOST_OF_BATCH: usize = 1 + BATCH_LIMIT * OPERATION;
 
 /// A line that stands for the call.
 pub fn written(draws: &mut Draws, call: &Call) -> Vec<u8> {
@@ -64,11 +70,27 @@ fn with_space_too_many(draws: &mut Draws, line: &[u8]) -> Vec<u8> {
 /// A field too few or too many.
 fn with_wrong_fields(draws: &mut Draws, line: &[u8]) -> Vec<u8> {
     let text = String::from_utf8_lossy(line);
-    match (text.strip_prefix('S'), text.rsplit_once(' ')) {
-        (Some(kinds), _) => format!("S{kinds}{}", " 0".repeat(17 - kinds.matches(' ').count())).into_bytes(),
-        (None, Some((before, _))) if draws.percent(50) => before.as_bytes().to_vec(),
-        _ => format!("{text} 0").into_bytes(),
+    let numbers = text.matches(' ').count();
+    let filled = |count: usize| format!("{text}{}", " 0".repeat(count - numbers)).into_bytes();
+    match (text.chars().next(), text.rsplit_once(' ')) {
+        (Some('S'), _) => filled(MOST_KINDS + 1),
+        (Some('G'), _) => with_wrong_operations(draws, &text),
+        (_, Some((before, _))) if draws.percent(50) => before.as_bytes().to_vec(),
+        _ => filled(numbers + 1),
     }
+}
+
+/// A batch with a part of an operation, with more than it may have, or with no number at all.
+fn with_wrong_operations(draws: &mut Draws, text: &str) -> Vec<u8> {
+    let mut fields: Vec<&str> = text.split(' ').collect();
+    let part = 1 + draws.below(OPERATION - 1);
+    match draws.below(4) {
+        0 if fields.len() > 2 => fields.truncate(fields.len() - part),
+        0 => fields.truncate(1),
+        1 | 2 => fields.resize(fields.len() + part, "0"),
+        _ => fields.resize(1 + MOST_OF_BATCH + draws.pick(&[1, OPERATION, 2 * OPERATION]), "0"),
+    }
+    fields.join(" ").into_bytes()
 }
 
 /// A number too long or too large, or one with a sign.
@@ -98,13 +120,15 @@ fn with_wrong_number(draws: &mut Draws, line: &[u8]) -> Vec<u8> {
 fn other_line(draws: &mut Draws) -> Vec<u8> {
     let length = draws.pick(&LENGTHS);
     let ten_digits = format!(" {:0>TEN_DIGITS$}", draws.below(4));
+    let (letter, most) = draws.pick(&[('S', MOST_KINDS), ('G', MOST_OF_BATCH)]);
+    let longest = format!("{letter}{}", ten_digits.repeat(most));
     match draws.below(6) {
         0 => Vec::new(),
-        1 => vec![draws.pick(b"0 S9B\0\xff"); length],
+        1 => vec![draws.pick(b"0 SG9B\0\xff"); length],
         2 => [b"B ".to_vec(), vec![b'0'; length], b"1".to_vec()].concat(),
         3 => [b"B 1".to_vec(), vec![b' '; length]].concat(),
-        4 => format!("S{}", ten_digits.repeat(17)).into_bytes(),
-        _ => [b"S".to_vec(), ten_digits.repeat(16).into_bytes(), vec![draws.pick(b"0 \r1\0")]].concat(), // 178 bytes
+        4 => (longest + &ten_digits).into_bytes(),
+        _ => [longest.into_bytes(), vec![draws.pick(b"0 \r1\0")]].concat(), // one byte more than a call has
     }
 }
 

@@ -7,8 +7,11 @@ use std::collections::BTreeSet;
 use reference::call::Call;
 use reference::{script, Reply};
 
+use crate::batches::{self, OPERATION};
 use crate::common::draws::Draws;
-use crate::common::{kind_word, row_count_word, sixteen, status_word, LIST_LENGTH, UNREDUCED, WORDS};
+use crate::common::{
+    kind_word, row_count_word, sixteen, status_word, BATCH_LIMIT, LIST_LENGTH, LOG_LIMIT, UNREDUCED, WORDS,
+};
 use crate::damage;
 use crate::profiles::Profile;
 use crate::script::{Line, Script};
@@ -93,10 +96,26 @@ impl<'a> Drawing<'a> {
 
     fn follow(&mut self, call: &Call) {
         let outcome = call.serve(&mut self.store, &mut [0; LIST_LENGTH]);
-        if let (&Call::Operate { transaction, object, key, .. }, Ok(Reply::Answer { .. })) = (call, outcome) {
-            self.answered.push(transaction);
-            self.keys.insert((object, key % UNREDUCED));
+        match (call, outcome) {
+            (&Call::Operate { transaction, object, key, .. }, Ok(Reply::Answer { .. })) => {
+                self.note(transaction, object, key);
+            }
+            (&Call::Batch { transaction, ref operations }, Ok(Reply::Answers(_))) => {
+                operations.chunks_exact(OPERATION).for_each(|words| self.note(transaction, words[0], words[2]));
+            }
+            (&Call::Batch { transaction, ref operations }, outcome)
+                if batches::together(&self.store, transaction, operations, outcome) =>
+            {
+                self.script.together.insert(self.script.lines.len());
+            }
+            _ => {}
         }
+    }
+
+    /// Notes an operation that was answered.
+    fn note(&mut self, transaction: u32, object: u32, key: u32) {
+        self.answered.push(transaction);
+        self.keys.insert((object, key % UNREDUCED));
     }
 
     fn draw_line(&mut self) {
@@ -121,6 +140,7 @@ impl<'a> Drawing<'a> {
         }
         let call = match self.draw_letter() {
             0 => Call::Begin { transaction: self.draw_transaction(ABSENT) },
+            1 if self.draws.percent(self.profile.batched) => self.draw_batch(),
             1 => self.draw_operation(),
             2 => Call::Finish { transaction: self.draw_finishing() },
             _ => Call::Cancel { transaction: self.draw_transaction(ACTIVE) },
@@ -190,16 +210,54 @@ impl<'a> Drawing<'a> {
 
     fn draw_operation(&mut self) -> Call {
         let transaction = self.draw_transaction(ACTIVE);
+        let object = self.draw_object();
+        let [object, operation, key, value] = self.draw_words(object);
+        Call::Operate { transaction, object, operation, key, value }
+    }
+
+    /// A batch; some have all operations on one object.
+    fn draw_batch(&mut self) -> Call {
+        let transaction = self.draw_transaction(ACTIVE);
+        let count = self.draw_count();
+        let one = self.draws.percent(30).then(|| self.draw_object());
+        let mut operations = Vec::new();
+        for _ in 0..count {
+            let object = one.unwrap_or_else(|| self.draw_object());
+            operations.extend(self.draw_words(object));
+        }
+        Call::Batch { transaction, operations }
+    }
+
+    /// How many operations a batch has: a few, or any number up to all that it may have. Where the log is nearly full,
+    /// often as many as it has space for, or one more.
+    fn draw_count(&mut self) -> usize {
+        let space = LOG_LIMIT.saturating_sub(self.store[0] as usize);
+        match self.draws.below(4) {
+            0 | 1 if (1..BATCH_LIMIT).contains(&space) => space + self.draws.below(2),
+            0 => self.draws.below(2),
+            1 | 2 => 2 + self.draws.below(3),
+            _ => self.draws.below(BATCH_LIMIT + 1),
+        }
+    }
+
+    fn draw_object(&mut self) -> u32 {
         let objects = self.objects();
-        let object = if objects.is_empty() { self.draws.below(17) as u32 } else { self.draws.pick(&objects) };
+        if objects.is_empty() {
+            self.draws.below(17) as u32
+        } else {
+            self.draws.pick(&objects)
+        }
+    }
+
+    /// The words of an operation on an object.
+    fn draw_words(&mut self, object: u32) -> [u32; OPERATION] {
         let (adding, others): (u32, &[u32]) = match self.kind(object.min(15)) {
             0 | 1 => (1, &[2, 3]),
             2 => (4, &[5, 6]),
             _ => (7, &[8, 9, 10, 11]),
         };
         let operation = if self.draws.percent(self.profile.adding) { adding } else { self.draws.pick(others) };
-        let (key, value) = (self.draw_key(), self.draw_value());
-        Call::Operate { transaction, object, operation, key, value }
+        [object, operation, self.draw_key(), self.draw_value()]
     }
 
     fn draw_key(&mut self) -> u32 {
@@ -234,14 +292,25 @@ impl<'a> Drawing<'a> {
                 *transaction = self.draw_anything();
             }
             Call::Operate { transaction, object, operation, key, value } => {
-                for argument in [transaction, object, operation, key, value] {
-                    if self.draws.percent(25) {
-                        *argument = self.draw_anything();
-                    }
+                self.make_wild([transaction, object, operation, key, value]);
+            }
+            Call::Batch { transaction, operations } => {
+                self.make_wild([transaction]);
+                for _ in 0..operations.len().min(2) {
+                    let place = self.draws.below(operations.len() / OPERATION);
+                    self.make_wild(&mut operations[place * OPERATION..][..OPERATION]);
                 }
             }
         }
         call
+    }
+
+    fn make_wild<'b>(&mut self, arguments: impl IntoIterator<Item = &'b mut u32>) {
+        for argument in arguments {
+            if self.draws.percent(25) {
+                *argument = self.draw_anything();
+            }
+        }
     }
 
     fn draw_anything(&mut self) -> u32 {

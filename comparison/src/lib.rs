@@ -5,6 +5,7 @@
 //! The desk's program is found at `target/bin/lending_desk` below the repository's root, or where `LENDING_DESK` says;
 //! the second implementation's where `cargo build --release` puts it, or where `REFERENCE_DESK` says.
 
+pub mod batches;
 pub mod call_lists;
 /// What the second implementation's tests share.
 #[path = "../../reference/tests/common/mod.rs"]

@@ -8,8 +8,10 @@ pub struct Profile {
     /// How many numbers of transactions are in use.
     pub transactions: usize,
     pub keys: usize,
-    /// Begin, operate, finish, cancel.
+    /// Begin, operate, singly or in a batch, finish, cancel.
     pub weights: [usize; 4],
+    /// Of a hundred calls that operate, how many are batches.
+    pub batched: usize,
     /// Of a hundred finishes, how many are of the transaction answered last.
     pub last_first: usize,
     /// Of a hundred operations, how many push or insert.
@@ -36,6 +38,7 @@ const USUAL: Profile = Profile {
     transactions: 6,
     keys: 3,
     weights: [25, 60, 11, 4],
+    batched: 12,
     last_first: 60,
     adding: 50,
     wild: 2,
@@ -51,7 +54,7 @@ const USUAL: Profile = Profile {
 const FULL: Profile =
     Profile { transactions: 3, keys: 80, weights: [4, 94, 2, 0], adding: 88, lines: (80, 60), scripts: 150, ..USUAL };
 
-pub const PROFILES: [Profile; 19] = [
+pub const PROFILES: [Profile; 23] = [
     Profile {
         name: "stacks, for cycles",
         kinds: &[1, 1, 1],
@@ -160,6 +163,41 @@ pub const PROFILES: [Profile; 19] = [
         lines: (400, 100),
         scripts: 120,
         ..FULL
+    },
+    Profile {
+        name: "batches",
+        kinds: &[1, 2, 3, 1, 2, 3],
+        keys: 6,
+        weights: [25, 55, 14, 6],
+        batched: 75,
+        wild: 5,
+        damaged: 3,
+        lines: (30, 50),
+        scripts: 2000,
+        ..USUAL
+    },
+    Profile {
+        name: "batches of bad arguments",
+        kinds: &[1, 0, 2, 0, 3],
+        batched: 75,
+        wild: 50,
+        damaged: 15,
+        lines: (30, 40),
+        scripts: 600,
+        ..USUAL
+    },
+    Profile { name: "batches that fill objects", kinds: &[2, 3], batched: 50, scripts: 400, ..FULL },
+    Profile {
+        name: "batches that fill the log",
+        kinds: &[1, 2, 3, 1, 2, 3, 1, 2, 3, 1, 2, 3],
+        transactions: 6,
+        keys: 60,
+        weights: [40, 945, 5, 10],
+        batched: 45,
+        adding: 90,
+        lines: (200, 150),
+        scripts: 400,
+        ..USUAL
     },
 ];
 

@@ -1,11 +1,11 @@
 //! Replies as a program prints them, read to the letter.
 
-use reference::{Outcome, Refusal, Reply};
+use reference::{Answer, Answers, Outcome, Refusal, Reply};
 
-use crate::common::shown;
+use crate::common::{shown, BATCH_LIMIT};
 
 /// Every reason for saying no.
-const REFUSALS: [Refusal; 11] = [
+const REFUSALS: [Refusal; 12] = [
     Refusal::StoreLength,
     Refusal::ListLength,
     Refusal::Kinds,
@@ -17,6 +17,7 @@ const REFUSALS: [Refusal; 11] = [
     Refusal::Operation,
     Refusal::LogFull,
     Refusal::RowsFull,
+    Refusal::Operations,
 ];
 
 /// What a line of output says of its line of input.
@@ -27,8 +28,9 @@ pub enum Printed {
     Said(Outcome, Vec<u8>),
 }
 
-/// Reads a line of output without its line feed; none where it is not, byte by byte, one that the paper has.
-pub fn read(line: &[u8]) -> Option<Printed> {
+/// Reads a line of output without its line feed, printed for a batch or not; none where it is not, byte by byte, one
+/// that the paper has.
+pub fn read(line: &[u8], batch: bool) -> Option<Printed> {
     let line = std::str::from_utf8(line).ok()?;
     if line == "unread" {
         return Some(Printed::Unread);
@@ -36,16 +38,17 @@ pub fn read(line: &[u8]) -> Option<Printed> {
     let mut words = line.split(' ');
     let word = words.next()?;
     let numbers: Vec<u32> = words.map(|number| number.parse().ok()).collect::<Option<_>>()?;
-    let outcome = outcome(word, &numbers)?;
+    let outcome = outcome(word, &numbers, batch)?;
     let list = listed(outcome, &numbers)?;
     (shown(outcome, &list) == line).then_some(Printed::Said(outcome, list))
 }
 
-fn outcome(word: &str, numbers: &[u32]) -> Option<Outcome> {
+fn outcome(word: &str, numbers: &[u32], batch: bool) -> Option<Outcome> {
     let count = numbers.len();
     let reply = match (word, numbers) {
         ("refused", &[number]) => return REFUSALS.into_iter().find(|refusal| refusal.number() == number).map(Err),
         ("ok", []) => Reply::Ok,
+        ("answer", numbers) if batch => Reply::Answers(answers(numbers)?),
         ("answer", &[code, value]) => Reply::Answer { code, value },
         ("wait", &[count, ref owners @ ..]) => Reply::Wait { owners: owner_set(count, owners)?, count },
         ("finished", []) => Reply::Finished,
@@ -55,6 +58,16 @@ fn outcome(word: &str, numbers: &[u32]) -> Option<Outcome> {
         _ => return None,
     };
     Some(Ok(reply))
+}
+
+/// The answers to a batch; none where there are too many, or a code without its value.
+fn answers(numbers: &[u32]) -> Option<Answers> {
+    if numbers.len() > 2 * BATCH_LIMIT || numbers.len() % 2 > 0 {
+        return None;
+    }
+    let mut answers = Answers::none();
+    numbers.chunks_exact(2).for_each(|pair| answers.push(Answer { code: pair[0], value: pair[1] }));
+    Some(answers)
 }
 
 /// The owners of a wait as a set; none unless they ascend, are below 64, and are as many as it says, at least one.

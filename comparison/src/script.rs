@@ -1,5 +1,7 @@
 //! Scripts whose every line is known: its bytes, and the call that it stands for.
 
+use std::collections::BTreeSet;
+
 use reference::call::Call;
 
 /// A line without its line feed.
@@ -10,11 +12,19 @@ pub struct Line {
     pub call: Option<Call>,
 }
 
+impl Line {
+    pub fn is_batch(&self) -> bool {
+        matches!(self.call, Some(Call::Batch { .. }))
+    }
+}
+
 #[derive(Clone, Debug, Default, PartialEq, Eq)]
 pub struct Script {
     pub lines: Vec<Line>,
     /// Whether the end of the input ends the last line, which is then not empty.
     pub open_end: bool,
+    /// The indices of batches that are over a limit or wait as none of their operations does alone.
+    pub together: BTreeSet<usize>,
 }
 
 impl Script {

@@ -6,6 +6,7 @@ use reference::call::Call;
 use reference::history::History;
 use reference::{Outcome, Refusal, Reply};
 
+use crate::batches::OPERATION;
 use crate::common::draws::Draws;
 use crate::difference::lines;
 use crate::replies::{self, Printed};
@@ -80,7 +81,7 @@ impl PlainDesk {
     }
 
     fn take(&mut self, line: &Line, reply: &[u8]) -> Result<(), String> {
-        match (&line.call, replies::read(reply)) {
+        match (&line.call, replies::read(reply, line.is_batch())) {
             (None, Some(Printed::Unread)) => Ok(()),
             (Some(call), Some(Printed::Said(outcome, list))) if self.fits(call, outcome, &list) => {
                 self.enter(call, outcome, &list)
@@ -94,7 +95,11 @@ impl PlainDesk {
             self.serve()?;
             self.served.histories += 1;
         }
-        self.served.operations += u64::from(matches!(outcome, Ok(Reply::Answer { .. })));
+        self.served.operations += match outcome {
+            Ok(Reply::Answer { .. }) => 1,
+            Ok(Reply::Answers(answers)) => answers.as_slice().len() as u64,
+            _ => 0,
+        };
         self.history.record(call, outcome, list);
         Ok(())
     }
@@ -103,13 +108,17 @@ impl PlainDesk {
     fn fits(&self, call: &Call, outcome: Outcome, list: &[u8]) -> bool {
         let live = |transaction| self.history.live().contains(&transaction);
         match (call, outcome) {
-            (_, Err(Refusal::StoreLength | Refusal::ListLength | Refusal::Unsound)) => false,
+            (_, Err(Refusal::StoreLength | Refusal::ListLength | Refusal::Unsound | Refusal::Operations)) => false,
             (Call::SetUp { .. }, Ok(Reply::Ok) | Err(Refusal::Kinds)) => true,
             (Call::SetUp { .. }, _) | (_, Err(Refusal::Kinds)) => false,
             (_, Err(_)) => true,
             (&Call::Begin { transaction }, Ok(Reply::Ok)) => transaction < 64 && !live(transaction),
             (&Call::Operate { transaction, .. }, Ok(Reply::Answer { .. })) => live(transaction),
-            (&Call::Operate { transaction, .. }, Ok(Reply::Wait { owners, .. })) => {
+            (Call::Batch { transaction, operations }, Ok(Reply::Answers(answers))) => {
+                live(*transaction) && operations.len() == OPERATION * answers.as_slice().len()
+            }
+            (Call::Batch { operations, .. }, Ok(Reply::Wait { .. })) if operations.is_empty() => false,
+            (&Call::Operate { transaction, .. } | &Call::Batch { transaction, .. }, Ok(Reply::Wait { owners, .. })) => {
                 let mut owners = (0..64).filter(|owner| owners >> owner & 1 == 1);
                 live(transaction) && owners.all(|owner| live(owner) && owner != transaction)
             }

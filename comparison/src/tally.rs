@@ -4,13 +4,17 @@ use std::collections::BTreeMap;
 
 use reference::Reply;
 
+use crate::difference;
 use crate::replies::{self, Printed};
+use crate::script::{Line, Script};
 
 const CASCADE: &str = "list with two or more others";
+const UNREAD_BATCH: &str = "batch: unread";
 
-/// Every reply that a script can reach. It can't reach 1, 2 and 4: the program lends a whole book and a whole list, and
-/// every call leaves a sound book.
-pub const ROWS: [&str; 22] = [
+/// Every reply that a script can reach, those to batches apart. It can't reach 1, 2 and 4: the program lends a whole
+/// book and a whole list, and every call leaves a sound book. Nor can it reach 12: too many numbers, or too few, are
+/// `unread`.
+pub const ROWS: [&str; 37] = [
     "ok",
     "answer, code 0",
     "answer, code 1",
@@ -33,6 +37,21 @@ pub const ROWS: [&str; 22] = [
     "refused 10",
     "refused 11",
     "unread",
+    "batch: no answers",
+    "batch: one answer",
+    "batch: several answers",
+    "batch: wait for one",
+    "batch: wait for more than one",
+    "batch: wait for more than one, together",
+    "batch: refused 5",
+    "batch: refused 7",
+    "batch: refused 8",
+    "batch: refused 9",
+    "batch: refused 10",
+    "batch: refused 10, together",
+    "batch: refused 11",
+    "batch: refused 11, together",
+    UNREAD_BATCH,
 ];
 
 #[derive(Clone, Debug, Default)]
@@ -43,14 +62,25 @@ impl Tally {
         self.0.get(row).copied().unwrap_or(0)
     }
 
-    /// Counts the lines of an output; those that cannot be read are left to the checks.
-    pub fn count(&mut self, output: &[u8]) {
-        for line in output.split(|&byte| byte == b'\n') {
-            if let Some(printed) = replies::read(line) {
-                self.add(&row(&printed), 1);
-                self.add(CASCADE, u64::from(others(&printed) >= 2));
+    /// Counts the lines of a script's output; those that cannot be read are left to the checks.
+    pub fn count(&mut self, script: &Script, output: &[u8]) {
+        for (index, (line, reply)) in script.lines.iter().zip(difference::lines(output)).enumerate() {
+            let reply = reply.strip_suffix(b"\n").unwrap_or(reply);
+            if let Some(printed) = replies::read(reply, line.is_batch()) {
+                self.count_line(line, &printed, script.together.contains(&index));
             }
         }
+    }
+
+    fn count_line(&mut self, line: &Line, printed: &Printed, together: bool) {
+        let of = if line.is_batch() { "batch: " } else { "" };
+        let row = format!("{of}{}", row(printed));
+        self.add(&row, 1);
+        if together {
+            self.add(&format!("{row}, together"), 1);
+        }
+        self.add(CASCADE, u64::from(others(printed) >= 2));
+        self.add(UNREAD_BATCH, u64::from(*printed == Printed::Unread && line.bytes.starts_with(b"G ")));
     }
 
     pub fn join(&mut self, other: &Tally) {
@@ -73,6 +103,7 @@ fn row(printed: &Printed) -> String {
         Printed::Said(Ok(reply), _) => match reply {
             Reply::Ok => "ok".to_string(),
             Reply::Answer { code, .. } => format!("answer, code {code}"),
+            Reply::Answers(answers) => answers_row(answers.as_slice().len()).to_string(),
             Reply::Wait { count: 1, .. } => "wait for one".to_string(),
             Reply::Wait { .. } => "wait for more than one".to_string(),
             Reply::Finished => "finished".to_string(),
@@ -80,6 +111,15 @@ fn row(printed: &Printed) -> String {
             Reply::Circle { .. } => format!("circle {company}"),
             Reply::Cancelled { .. } => format!("cancelled {company}"),
         },
+    }
+}
+
+/// The row of so many answers to a batch.
+pub fn answers_row(count: usize) -> &'static str {
+    match count {
+        0 => "no answers",
+        1 => "one answer",
+        _ => "several answers",
     }
 }
 

@@ -5,9 +5,11 @@ use std::panic::{self, AssertUnwindSafe};
 
 use lending_desk::raw;
 use reference::call::Call;
-use reference::{calls, Outcome, Refusal, Reply};
+use reference::{calls, Answer, Outcome, Refusal, Reply};
 
+use crate::batches::OPERATION;
 use crate::common::{line_of, BLANK};
+use crate::tally::answers_row;
 
 /// A call, with or without a letter in scripts.
 #[derive(Clone, Debug, PartialEq, Eq)]
@@ -33,6 +35,7 @@ impl fmt::Display for AnyCall {
 pub enum Numbers {
     Accepted(raw::Accepted),
     Operated(raw::Operated),
+    Batched(raw::Batched),
     Ended(raw::Ended),
     Part(raw::Part),
 }
@@ -42,6 +45,7 @@ impl Numbers {
         match *self {
             Numbers::Accepted(raw::Accepted { refusal })
             | Numbers::Operated(raw::Operated { refusal, .. })
+            | Numbers::Batched(raw::Batched { refusal, .. })
             | Numbers::Ended(raw::Ended { refusal, .. })
             | Numbers::Part(raw::Part { refusal, .. }) => refusal,
         }
@@ -53,9 +57,12 @@ impl Numbers {
         match *self {
             _ if self.refusal() != 0 => format!("refused {}", self.refusal()),
             Numbers::Accepted(_) => "ok".to_string(),
-            Numbers::Operated(raw::Operated { code: 0, count: 1, .. }) => "wait for one".to_string(),
-            Numbers::Operated(raw::Operated { code: 0, .. }) => "wait for more than one".to_string(),
+            Numbers::Operated(raw::Operated { code: 0, count, .. })
+            | Numbers::Batched(raw::Batched { code: 0, count, .. }) => {
+                format!("wait for {}", if count == 1 { "one" } else { "more than one" })
+            }
             Numbers::Operated(raw::Operated { answer, .. }) => format!("answer, code {answer}"),
+            Numbers::Batched(raw::Batched { count, .. }) => answers_row(count as usize).to_string(),
             Numbers::Ended(raw::Ended { code: 2, .. }) => "finished".to_string(),
             Numbers::Ended(raw::Ended { code: 3, count, .. }) => format!("committed {}", company(count - 1)),
             Numbers::Ended(raw::Ended { code: 4, count, .. }) => format!("circle {}", company(count)),
@@ -96,6 +103,7 @@ pub fn proved(call: &AnyCall, store: &mut [u32], list: &mut [u8]) -> Served {
             Call::Operate { transaction, object, operation, key, value } => {
                 Numbers::Operated(raw::operate(store, transaction, object, operation, key, value))
             }
+            Call::Batch { transaction, ref operations } => Numbers::Batched(raw::batch(store, transaction, operations)),
             Call::Finish { transaction } => Numbers::Ended(raw::finish(store, transaction, list)),
             Call::Cancel { transaction } => Numbers::Ended(raw::cancel(store, transaction, list)),
         },
@@ -141,6 +149,11 @@ fn written(call: &Call, outcome: Outcome) -> Numbers {
             Numbers::Operated(raw::Operated { code: 1, answer: code, value, ..ZEROS })
         }
         (Call::Operate { .. }, Err(_)) => Numbers::Operated(raw::Operated { refusal, ..ZEROS }),
+        (Call::Batch { .. }, Ok(Reply::Wait { owners, count })) => {
+            Numbers::Batched(raw::Batched { owners, count, ..raw::Batched::default() })
+        }
+        (Call::Batch { .. }, Ok(Reply::Answers(answers))) => Numbers::Batched(batched(answers.as_slice())),
+        (Call::Batch { .. }, Err(_)) => Numbers::Batched(raw::Batched { refusal, ..raw::Batched::default() }),
         (Call::Finish { .. }, Ok(Reply::Finished)) => ended(0, 2, 0),
         (Call::Finish { .. }, Ok(Reply::Committed { count })) => ended(0, 3, count),
         (Call::Finish { .. }, Ok(Reply::Circle { count })) => ended(0, 4, count),
@@ -148,6 +161,14 @@ fn written(call: &Call, outcome: Outcome) -> Numbers {
         (Call::Finish { .. } | Call::Cancel { .. }, Err(_)) => ended(refusal, 0, 0),
         (call, Ok(reply)) => panic!("{reply:?} to {call:?}"),
     }
+}
+
+fn batched(answers: &[Answer]) -> raw::Batched {
+    let mut reply = raw::Batched { code: 1, count: answers.len() as u32, ..raw::Batched::default() };
+    for (place, &Answer { code, value }) in reply.answers.iter_mut().zip(answers) {
+        *place = raw::Answer { code, value };
+    }
+    reply
 }
 
 fn ended(refusal: u32, code: u32, count: usize) -> Numbers {
@@ -234,4 +255,29 @@ pub fn hold(desks: [Desk; 2], call: &AnyCall, store: &[u32], list: &[u8]) -> Res
         },
         [one, _] => Err(format!("the {} desk panics", if one.is_none() { "first" } else { "second" })),
     }
+}
+
+/// Makes the operations of a batch that was answered singly and in order: how what they are answered and leave differs
+/// from what the batch was answered and left.
+pub fn hold_singly(desk: Desk, call: &AnyCall, store: &[u32], left: &Left) -> Result<(), String> {
+    let (transaction, operations, batched) = match (call, left.served.numbers) {
+        (AnyCall::Lettered(Call::Batch { transaction, operations }), Numbers::Batched(batched))
+            if batched.code == 1 =>
+        {
+            (*transaction, operations, batched)
+        }
+        _ => return Ok(()),
+    };
+    let mut words = store.to_vec();
+    for (answer, operation) in batched.answers.iter().zip(operations.chunks_exact(OPERATION)) {
+        let (object, key, value) = (operation[0], operation[2], operation[3]);
+        let single = Call::Operate { transaction, object, operation: operation[1], key, value };
+        let Served { numbers, .. } = desk(&AnyCall::Lettered(single.clone()), &mut words, &mut []);
+        let expected = Numbers::Operated(raw::Operated { code: 1, answer: answer.code, value: answer.value, ..ZEROS });
+        if numbers != expected {
+            return Err(format!("singly, {}: {numbers:?} and not {expected:?}", line_of(&single)));
+        }
+    }
+    let difference = (0..words.len()).find(|&index| words[index] != left.store()[index]);
+    difference.map_or(Ok(()), |index| Err(format!("singly, word {index} is {}", words[index])))
 }

@@ -73,7 +73,10 @@ fn desk_says_the_calls_and_replies_in_twenty_lines() {
     let help = help();
     assert!(help.lines().count() <= 20);
     assert!(help.lines().all(|line| line.chars().count() <= 120));
-    for word in ["S ", "B ", "I ", "F ", "C ", "ok", "answer", "finished", "committed", "circle", "cancelled"] {
+    for letter in ["S KIND", "B HANDOUT", "I HANDOUT", "G HANDOUT", "F HANDOUT", "C HANDOUT"] {
+        assert!(help.contains(&format!("  {letter}")), "{letter}");
+    }
+    for word in ["ok", "answer", "finished", "committed", "circle", "cancelled"] {
         assert!(help.contains(word), "{word}");
     }
     assert!(help.contains("wait COUNT OWNERS") && help.contains("refused") && help.contains("unread"));
@@ -107,7 +110,7 @@ fn desk_says_what_each_refusal_means() {
         assert!(help.split(&reason).skip(1).any(ends), "{reason}");
     }
     numbers.sort_unstable();
-    assert!(numbers.into_iter().eq(1..=11), "the README has all of them");
+    assert!(numbers.into_iter().eq(1..=12), "the README has all of them");
     assert!(help.contains("script meets 3 and 5 to 11 only"));
 }
 

@@ -16,10 +16,10 @@ use comparison::program::{self, take_input, Program};
 const PATIENCE: Duration = Duration::from_secs(30);
 /// Lines of every letter, some unread, the last one without its line feed.
 const SCRIPT: &[u8] =
-    b"S 1 2 3\nB 0\nB 63\nI 0 0 1 4294967295 0\n\nI 63 0 1 9 0\nI 63 2 7 16777221 3\nX\nF 63\nI 0 2 9 5 0\nB 1\n\
-I 1 0 2 0 0\nF 0\nI 1 0 2 0 0\nI 1 0 2 0 0\nI 1 2 9 5 0\nC 1\nB 64";
-const REPLIES: &[u8] = b"ok\nok\nok\nanswer 1 0\nunread\nanswer 1 0\nanswer 1 0\nunread\nfinished\nwait 1 63\nok\n\
-wait 2 0 63\ncommitted 0 63\nanswer 1 9\nanswer 1 4294967295\nanswer 1 3\ncancelled\nrefused 5\n";
+    b"S 1 2 3\nB 0\nB 63\nI 0 0 1 4294967295 0\n\nG 63 0 1 9 0 2 7 16777221 3\nX\nF 63\nI 0 2 9 5 0\nB 1\n\
+G 1 1 4 8 0 0 2 0 0\nG 1 0 2 0\nG 1\nF 0\nI 1 0 2 0 0\nG 1 0 2 0 0 2 9 5 0\nI 1 0 2 0 0\nC 1\nB 64";
+const REPLIES: &[u8] = b"ok\nok\nok\nanswer 1 0\nunread\nanswer 1 0 1 0\nunread\nfinished\nwait 1 63\nok\n\
+wait 2 0 63\nunread\nanswer\ncommitted 0 63\nanswer 1 9\nanswer 1 4294967295 1 3\nanswer 0 0\ncancelled\nrefused 5\n";
 
 /// Asserts that both programs, each run as told, print the same and end well.
 fn assert_same(run: impl Fn(&Program) -> Result<Vec<u8>, String>, what: &str) -> Vec<u8> {
@@ -38,7 +38,7 @@ fn line_feeds(bytes: &[u8]) -> usize {
 fn each_line_of_any_bytes_gets_one_reply_line() {
     for seed in 0..300 {
         let mut draws = Draws::new(seed);
-        let choices: &[u8] = if draws.percent(50) { b"\n\n\nSBIFC  0123456789" } else { b"\n\r\0B 1\xff" };
+        let choices: &[u8] = if draws.percent(50) { b"\n\n\nSBIGFC  0123456789" } else { b"\n\r\0B 1\xff" };
         let any = draws.percent(30);
         let draw_byte = |_| if any { draws.word() as u8 } else { draws.pick(choices) };
         let input: Vec<u8> = (0..1 + seed as usize * 10).map(draw_byte).collect();
@@ -64,6 +64,48 @@ fn inputs_of_hardly_anything() {
     for (input, expected) in cases {
         assert_eq!(desk.run(input).as_deref(), Ok(expected), "{}", input.escape_ascii());
     }
+}
+
+/// A batch of transaction 1 with sixteen times the same operation, every number with ten digits: no call is longer.
+fn longest_batch(operation: [u32; 4]) -> String {
+    let numbers = [&[1], &operation.repeat(16)[..]].concat();
+    let line = numbers.iter().fold("G".to_string(), |line, number| format!("{line} {number:0>10}"));
+    assert_eq!(line.len(), 716);
+    line
+}
+
+#[test]
+fn longest_batch_is_read_and_one_longer_is_not() {
+    let batch = longest_batch([0, 3, u32::MAX, u32::MAX]);
+    let answers = "answer".to_string() + &" 1 4294967295".repeat(16);
+    let mut input = format!("S 1\nB 1\nI 1 0 1 4294967295 0\n{batch}\n");
+    let mut expected = format!("ok\nok\nanswer 1 0\n{answers}\n");
+    for more in ["0", " ", "\r", "x", " 0", " 0 3 0 0"] {
+        input += &format!("{batch}{more}\n");
+        expected += "unread\n";
+    }
+    for fewer in 1..4 {
+        input += &format!("{}\n", &batch[..batch.len() - 11 * fewer]);
+        expected += "unread\n";
+    }
+    input += &format!("{}\nG 1", &batch[..batch.len() - 11 * 4]);
+    expected += &format!("{}\nanswer\n", &answers[..answers.len() - 13]);
+    let output = assert_same(|program| program.run(input.as_bytes()), "the longest batch");
+    assert_eq!(String::from_utf8_lossy(&output), expected);
+}
+
+/// They are the longest answers there are, and fill whatever the program writes at once in every way.
+#[test]
+fn megabytes_of_answers_are_printed_whole() {
+    const TIMES: usize = 500;
+    let batch = "G 1".to_string() + &" 0 3 0 0".repeat(16) + "\n";
+    let answers = "answer".to_string() + &" 1 4294967295".repeat(16) + "\n";
+    let input =
+        "S 1\nB 1\nI 1 0 1 4294967295 0\nF 1\n".to_string() + &format!("B 1\n{}C 1\n", batch.repeat(15)).repeat(TIMES);
+    let expected = "ok\nok\nanswer 1 0\ncommitted 1\n".to_string()
+        + &format!("ok\n{}cancelled\n", answers.repeat(15)).repeat(TIMES);
+    let output = assert_same(|program| program.run_long(input.as_bytes()), "long output");
+    assert!(output == expected.as_bytes());
 }
 
 /// The most owners that a wait can have.
@@ -101,10 +143,10 @@ fn many_megabytes_of_short_lines_are_answered_each() {
     let mut input = Vec::new();
     while input.len() < 8 << 20 {
         let bad: &[u8] =
-            draws.pick(&[b"\n", b"B\n", b"X 1\n", b"b 0\n", b"B 4294967296\n", b"\0\xff\n", b"S 1 2 3 \n"]);
+            draws.pick(&[b"\n", b"B\n", b"X 1\n", b"b 0\n", b"B 4294967296\n", b"\0\xff\n", b"S 1 2 3 \n", b"G 0 1\n"]);
         input.extend(bad);
     }
-    input.extend(b"S 1 2 3\nB 0\nI 0 0 1 7 0\nI 0 1 4 5 0\nI 0 0 2 0 0\nF 0\nB 1\nC 1\n".repeat(40_000));
+    input.extend(b"S 1 2 3\nB 0\nI 0 0 1 7 0\nG 0 1 4 5 0 0 2 0 0\nG 0\nF 0\nB 1\nC 1\n".repeat(40_000));
     let output = assert_same(|program| program.run_long(&input), "long input");
     assert_eq!(line_feeds(&output), line_feeds(&input));
 }
@@ -256,7 +298,7 @@ fn memory_stays_fixed_however_long_a_line_is() {
 fn memory_stays_fixed_however_many_lines_there_are() {
     const LINES_KIBIBYTES: usize = 8 << 10;
     let mut talk = Talk::start();
-    let lines = b"S 1 2\nB 7\n\nI 7 0 1 9 0\nI 7 1 4 9 0\nX\nF 7\n ";
+    let lines = b"S 1 2\nB 7\n\nI 7 0 1 9 0\nG 7 1 4 9 0 0 3 0 0\nX\nF 7\n ";
     let some = lines.repeat((1 << 10) / lines.len());
     let mut peaks = Vec::new();
     for kibibyte in 0..=LINES_KIBIBYTES {
@@ -297,20 +339,28 @@ const BLOCKS: [usize; 9] = [128, 512, 1024, 4096, 8192, 16_384, 32_768, 65_536, 
 /// Before the call come lines up to the byte given: one long one, or many empty ones.
 #[test]
 fn calls_across_the_edges_of_blocks_are_read_whole() {
-    let desk = Program::lending_desk();
-    let call = "I 1 0 1 4294967295 0\n";
-    for block in BLOCKS {
-        for start in block - call.len() - 1..=block + 2 {
-            for padding in [b'x', b'\n'] {
-                let before = [b"S 1\nB 1\n", &vec![padding; start - 9][..], b"\n"].concat();
-                assert_eq!(before.len(), start);
-                let unread = "unread\n".repeat(line_feeds(&before) - 2);
-                let expected = format!("ok\nok\n{unread}answer 1 0\nanswer 1 4294967295\ncommitted 1\n");
-                let input = [&before, call.as_bytes(), b"I 1 0 3 0 0\nF 1"].concat();
-                for output in [desk.run_long(&input), desk.run_on_file(&input)] {
-                    assert!(output.as_deref() == Ok(expected.as_bytes()), "a call at byte {start}");
-                }
+    let single = "I 1 0 1 4294967295 0\n".to_string();
+    let batch = longest_batch([0, 1, u32::MAX, u32::MAX]) + "\n";
+    for (call, pushes, step) in [(single, 1, 1), (batch, 16, 53)] {
+        for block in BLOCKS.into_iter().filter(|block| block - block / 4 > call.len()) {
+            for start in (block - call.len() - 1..=block + 2).step_by(step) {
+                assert_read_at(start, &call, pushes);
             }
+        }
+    }
+}
+
+/// Asserts that a call of so many pushes is read where it starts at the byte given.
+fn assert_read_at(start: usize, call: &str, pushes: usize) {
+    let desk = Program::lending_desk();
+    for padding in [b'x', b'\n'] {
+        let before = [b"S 1\nB 1\n", &vec![padding; start - 9][..], b"\n"].concat();
+        assert_eq!(before.len(), start);
+        let (unread, answers) = ("unread\n".repeat(line_feeds(&before) - 2), " 1 0".repeat(pushes));
+        let expected = format!("ok\nok\n{unread}answer{answers}\nanswer 1 4294967295\ncommitted 1\n");
+        let input = [&before, call.as_bytes(), b"I 1 0 3 0 0\nF 1"].concat();
+        for output in [desk.run_long(&input), desk.run_on_file(&input)] {
+            assert!(output.as_deref() == Ok(expected.as_bytes()), "a call at byte {start}");
         }
     }
 }

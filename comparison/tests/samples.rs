@@ -1,4 +1,4 @@
-//! The paper's whole case and its samples that are only run, on both programs.
+//! The paper's whole case, its samples that are only run, and samples of batches, on both programs.
 
 use std::fs;
 
@@ -49,9 +49,60 @@ fn circle() -> Sample {
     )
 }
 
-/// All samples in one script; each begins with a set up of its own.
+/// A leader draws from two racks and marks it in the list, all in one go; another's waits for both handouts that
+/// stand in its way, and goes when they have ended.
+fn batches() -> Sample {
+    columns(
+        "S 1 1 2                              ok
+         B 0                                  ok
+         G 0 0 1 7 0 0 1 8 0 1 1 9 0          answer 1 0 1 0 1 0
+         F 0                                  committed 0
+         B 1                                  ok
+         B 2                                  ok
+         B 3                                  ok
+         G 1 0 2 0 0 0 2 0 0 2 4 8 0          answer 1 8 1 7 1 0
+         G 2 1 2 0 0 1 2 0 0 2 4 9 0          answer 1 9 0 0 1 0
+         G 3 2 4 5 0 0 3 0 0 1 3 0 0          wait 2 1 2
+         G 3                                  answer
+         G 3 2 4 5 0 2 6 5 0 16 1 0 0         refused 8
+         G 3 2 4 5 0 0 4 5 0 16 1 0 0         refused 9
+         C 1                                  cancelled
+         G 3 2 4 5 0 0 3 0 0 1 3 0 0          wait 1 2
+         F 2                                  committed 2
+         G 3 2 4 5 0 0 3 0 0 1 3 0 0          answer 1 0 1 8 0 0
+         G 3 2 6 8 0 2 6 9 0 2 5 5 0 2 6 5 0  answer 0 0 1 0 1 0 0 0
+         F 3                                  committed 3
+         G 3                                  refused 7
+         G 64                                 refused 5
+         G 3 0 1 7                            unread",
+    )
+}
+
+/// On one stack, fifteen batches of sixteen are taken, and of what the log has space for then no more than that.
+fn full_log_by_batches() -> Sample {
+    let looks = |count| (" 0 3 0 0".repeat(count), " 0 0".repeat(count));
+    let ((sixteen, answers), (last, last_answers), (one, _)) = (looks(16), looks(15), looks(1));
+    let taken = format!("G 0{sixteen}  answer{answers}\n").repeat(15);
+    let beyond = format!("I 0 0 3 0 0  answer 0 0\nG 0{sixteen}  refused 10\n");
+    columns(&format!(
+        "S 1  ok\n B 0  ok\n {taken}{beyond}G 0{last}  answer{last_answers}\nG 0{one}  refused 10\nG 0  answer"
+    ))
+}
+
+/// The same with pushes, and the stack's rows.
+fn full_stack_by_batches() -> Sample {
+    let pushes = |count| (" 0 1 7 0".repeat(count), " 1 0".repeat(count));
+    let ((sixteen, answers), (last, last_answers), (one, _)) = (pushes(16), pushes(15), pushes(1));
+    let taken = format!("G 0{sixteen}  answer{answers}\n").repeat(3);
+    let beyond = format!("I 0 0 1 7 0  answer 1 0\nG 0{sixteen}  refused 11\n");
+    columns(&format!(
+        "S 1  ok\n B 0  ok\n {taken}{beyond}G 0{last}  answer{last_answers}\nG 0{one}  refused 11\nG 0  answer"
+    ))
+}
+
+/// Samples in one script; each begins with a set up of its own.
 fn all() -> Sample {
-    [whole_case(), last_handout(), full_log(), full_stack(), circle()].into_iter().unzip()
+    [whole_case(), last_handout(), full_log(), full_stack(), circle(), batches()].into_iter().unzip()
 }
 
 fn assert_printed((input, expected): Sample) {
@@ -87,6 +138,21 @@ fn push_64_is_taken_and_the_next_refused() {
 #[test]
 fn circle_over_two_stacks_ends_the_one_that_closes_it() {
     assert_printed(circle());
+}
+
+#[test]
+fn batches_are_answered_entirely_or_not_at_all() {
+    assert_printed(batches());
+}
+
+#[test]
+fn log_entry_256_of_a_batch_is_taken_and_the_next_refused() {
+    assert_printed(full_log_by_batches());
+}
+
+#[test]
+fn push_64_of_a_batch_is_taken_and_the_next_refused() {
+    assert_printed(full_stack_by_batches());
 }
 
 #[test]

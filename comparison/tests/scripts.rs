@@ -94,7 +94,7 @@ impl Pass {
     }
 
     fn serve(&mut self, script: &Script, output: &[u8], seed: u64, fault: impl Fn(usize, &str) -> Fault) {
-        self.tally.count(output);
+        self.tally.count(script, output);
         match serial::check(script, output, seed) {
             Ok(served) => self.served.join(served),
             Err(broken) => self.broken.add(fault(broken.line, &broken.what)),
@@ -139,7 +139,7 @@ fn print_tables(pass: &Pass) -> io::Result<()> {
     let mut stderr = io::stderr().lock();
     writeln!(stderr, "\nrandom scripts, run by both programs: {}", pass.scripts)?;
     let rows = ROWS.iter().map(|&row| (row, pass.tally.of(row))).chain(served);
-    rows.into_iter().try_for_each(|(row, count)| writeln!(stderr, "{row:<30}{count:>10}"))
+    rows.into_iter().try_for_each(|(row, count)| writeln!(stderr, "{row:<42}{count:>10}"))
 }
 
 #[test]

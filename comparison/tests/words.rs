@@ -5,16 +5,18 @@ use std::collections::HashSet;
 use std::io::{self, Write};
 use std::sync::{Arc, Mutex};
 
+use comparison::batches::{together, OPERATION};
 use comparison::call_lists::call_list;
 use comparison::common::draws::Draws;
-use comparison::common::{kind_word, sixteen, status_word, LIST_LENGTH, WORDS};
+use comparison::common::{kind_word, sixteen, status_word, BATCH_LIMIT, LIST_LENGTH, LOG_LIMIT, WORDS};
 use comparison::profiles::{Profile, PROFILES};
 use comparison::stores;
 use comparison::tally::Tally;
 use comparison::threads::divided;
-use comparison::words::{hold, proved, second, AnyCall, Desk, Left, Numbers, Served};
+use comparison::words::{hold, hold_singly, proved, second, AnyCall, Desk, Left, Numbers, Served};
 use lending_desk::raw;
 use reference::call::Call;
+use reference::{calls, Outcome, Refusal, Reply};
 
 const FEWEST_CALLS: u64 = 400_000;
 const FEWEST_BOOKS: usize = 10_000;
@@ -30,35 +32,43 @@ const LONGEST_LIST: usize = 80;
 const ANYTHING: [u32; 10] = [0, 15, 16, 17, 63, 64, 65, 255, 1 << 31, u32::MAX];
 
 /// What the columns of the table of replies count.
-const CALLS: [&str; 6] = ["set up", "begin", "operate", "finish", "cancel", "contents"];
+const CALLS: [&str; 7] = ["set up", "begin", "operate", "batch", "finish", "cancel", "contents"];
 /// Every reply, and which calls say it, by their places in `CALLS`.
-const REPLIES: [(&str, &[usize]); 26] = [
+const REPLIES: [(&str, &[usize]); 34] = [
     ("ok", &[0, 1]),
-    ("wait for one", &[2]),
-    ("wait for more than one", &[2]),
+    ("wait for one", &[2, 3]),
+    ("wait for more than one", &[2, 3]),
+    ("wait, together", &[3]),
     ("answer, code 0", &[2]),
     ("answer, code 1", &[2]),
-    ("finished", &[3]),
-    ("committed alone", &[3]),
-    ("committed with others", &[3]),
-    ("circle alone", &[3]),
-    ("circle with others", &[3]),
-    ("cancelled alone", &[4]),
-    ("cancelled with others", &[4]),
-    ("no rows", &[5]),
-    ("rows", &[5]),
-    ("refused 1", &[0, 1, 2, 3, 4, 5]),
-    ("refused 2", &[3, 4]),
+    ("no answers", &[3]),
+    ("one answer", &[3]),
+    ("several answers", &[3]),
+    ("finished", &[4]),
+    ("committed alone", &[4]),
+    ("committed with others", &[4]),
+    ("circle alone", &[4]),
+    ("circle with others", &[4]),
+    ("cancelled alone", &[5]),
+    ("cancelled with others", &[5]),
+    ("no rows", &[6]),
+    ("rows", &[6]),
+    ("refused 1", &[0, 1, 2, 3, 4, 5, 6]),
+    ("refused 2", &[4, 5]),
     ("refused 3", &[0]),
-    ("refused 4", &[1, 2, 3, 4, 5]),
-    ("refused 5", &[1, 2, 3, 4]),
+    ("refused 4", &[1, 2, 3, 4, 5, 6]),
+    ("refused 5", &[1, 2, 3, 4, 5]),
     ("refused 6", &[1]),
-    ("refused 7", &[2, 3, 4]),
-    ("refused 8", &[2, 5]),
-    ("refused 9", &[2]),
-    ("refused 10", &[2]),
-    ("refused 11", &[2]),
-    ("in all", &[0, 1, 2, 3, 4, 5]),
+    ("refused 7", &[2, 3, 4, 5]),
+    ("refused 8", &[2, 3, 6]),
+    ("refused 9", &[2, 3]),
+    ("refused 10", &[2, 3]),
+    ("refused 10, together", &[3]),
+    ("refused 11", &[2, 3]),
+    ("refused 11, together", &[3]),
+    ("refused 12, too many", &[3]),
+    ("refused 12, a part", &[3]),
+    ("in all", &[0, 1, 2, 3, 4, 5, 6]),
 ];
 
 /// Where a store comes from.
@@ -118,18 +128,20 @@ impl Pass {
         self.differences.extend(other.differences);
     }
 
-    fn count(&mut self, call: &AnyCall, numbers: &Numbers) {
+    fn count(&mut self, call: &AnyCall, store: &[u32], numbers: &Numbers) {
         let column = match call {
             AnyCall::Lettered(Call::SetUp { .. }) => 0,
             AnyCall::Lettered(Call::Begin { .. }) => 1,
             AnyCall::Lettered(Call::Operate { .. }) => 2,
-            AnyCall::Lettered(Call::Finish { .. }) => 3,
-            AnyCall::Lettered(Call::Cancel { .. }) => 4,
-            AnyCall::Contents { .. } => 5,
+            AnyCall::Lettered(Call::Batch { .. }) => 3,
+            AnyCall::Lettered(Call::Finish { .. }) => 4,
+            AnyCall::Lettered(Call::Cancel { .. }) => 5,
+            AnyCall::Contents { .. } => 6,
         };
         self.calls += 1;
-        self.replies[column].add(&numbers.row(), 1);
-        self.replies[column].add("in all", 1);
+        let replies = &mut self.replies[column];
+        rows(call, store, numbers).iter().for_each(|row| replies.add(row, 1));
+        replies.add("in all", 1);
     }
 
     fn count_book(&mut self, origin: Origin, store: &[u32], refused: bool) {
@@ -150,6 +162,23 @@ impl Pass {
 
     fn taken(&self, origins: fn(Origin) -> bool) -> usize {
         self.books(|books| &books.taken, origins)
+    }
+}
+
+/// The rows of a reply to a call on a store.
+fn rows(call: &AnyCall, store: &[u32], numbers: &Numbers) -> Vec<String> {
+    let row = numbers.row();
+    let (transaction, operations) = match call {
+        AnyCall::Lettered(Call::Batch { transaction, operations }) => (*transaction, operations),
+        _ => return vec![row],
+    };
+    let outcome = calls::batch(&mut store.to_vec(), transaction, operations);
+    match numbers.refusal() {
+        12 if operations.len() % OPERATION > 0 => vec!["refused 12, a part".to_string()],
+        12 => vec!["refused 12, too many".to_string()],
+        _ if !together(store, transaction, operations, outcome) => vec![row],
+        0 => vec![row, "wait, together".to_string()],
+        _ => vec![format!("{row}, together"), row],
     }
 }
 
@@ -229,7 +258,8 @@ impl Walk<'_> {
             let (origin, damage) = (ORIGINS[origin.place()].1, self.damage(origin, store));
             format!("{origin}{damage}; {call} with a list of {length}: {difference}")
         })?;
-        self.pass.count(call, &left.served.numbers);
+        hold_singly(self.desks[0], call, store, &left).map_err(|difference| format!("{call}: {difference}"))?;
+        self.pass.count(call, store, &left.served.numbers);
         Ok(left)
     }
 
@@ -247,13 +277,46 @@ impl Walk<'_> {
 
     /// A call that the store reached may serve, or one that it refuses.
     fn draw_call(&mut self, coming: &[Call]) -> Call {
-        match self.draws.below(6) {
+        match self.draws.below(8) {
             0 => Call::SetUp { kinds: self.draw_kinds() },
             1 => Call::Begin { transaction: self.draw_transaction(0) },
             2 => Call::Finish { transaction: self.draw_transaction(1) },
             3 => Call::Cancel { transaction: self.draw_transaction(1) },
+            4 | 5 => Call::Batch { transaction: self.draw_transaction(1), operations: self.draw_operations() },
             _ => coming[self.draws.below(coming.len())].clone(),
         }
+    }
+
+    /// The words of up to one operation more than a batch may have, at times with a part of another.
+    fn draw_operations(&mut self) -> Vec<u32> {
+        let space = LOG_LIMIT.saturating_sub(self.store[0] as usize);
+        let count = match self.draws.below(4) {
+            0 | 1 if (1..BATCH_LIMIT).contains(&space) => space + self.draws.below(2),
+            0 | 1 => self.draws.below(4),
+            _ => self.draws.below(BATCH_LIMIT + 2),
+        };
+        let one = self.draws.percent(30).then(|| self.draw_object());
+        let mut words = Vec::new();
+        for _ in 0..count {
+            let object = one.unwrap_or_else(|| self.draw_object());
+            words.extend(self.draw_operation(object));
+        }
+        if self.draws.percent(20) {
+            let part = 1 + self.draws.below(OPERATION - 1);
+            words.extend(&self.draw_operation(0)[..part]);
+        }
+        words
+    }
+
+    /// The words of an operation on an object, mostly one of its kind.
+    fn draw_operation(&mut self, object: u32) -> [u32; OPERATION] {
+        let operations: &[u32] = match self.store[kind_word(object.min(15) as usize)] {
+            _ if self.draws.percent(3) => &[0, 1, 4, 7, 12, u32::MAX],
+            1 => &[1, 1, 2, 3],
+            2 => &[4, 4, 5, 6],
+            _ => &[7, 7, 8, 9, 10, 11],
+        };
+        [object, self.draws.pick(operations), self.draws.below(4) as u32, self.draws.below(3) as u32]
     }
 
     fn draw_kinds(&mut self) -> Vec<u8> {
@@ -281,7 +344,7 @@ impl Walk<'_> {
     /// An object, mostly one with a kind.
     fn draw_object(&mut self) -> u32 {
         let with_kind: Vec<u32> = (0..16).filter(|&object| self.store[kind_word(object as usize)] != 0).collect();
-        match self.draws.below(10) {
+        match self.draws.below(20) {
             0 => self.draws.pick(&ANYTHING),
             1 => self.draws.below(16) as u32,
             _ if with_kind.is_empty() => self.draws.below(16) as u32,
@@ -403,6 +466,167 @@ fn with_operated(
     served
 }
 
+/// A batch, and the store that it is made on.
+struct Asked<'a> {
+    store: Vec<u32>,
+    transaction: u32,
+    operations: &'a [u32],
+}
+
+impl Asked<'_> {
+    /// What the second implementation says to each of the operations alone.
+    fn alone(&self) -> impl DoubleEndedIterator<Item = Outcome> + '_ {
+        self.operations.chunks_exact(OPERATION).map(|words| operate(&mut self.store.clone(), self.transaction, words))
+    }
+
+    /// The answers to the operations, each alone; none where one is refused or waits.
+    fn answers_alone(&self) -> Option<Vec<raw::Answer>> {
+        let answer = |outcome| match outcome {
+            Ok(Reply::Answer { code, value }) => Some(raw::Answer { code, value }),
+            _ => None,
+        };
+        self.alone().map(answer).collect()
+    }
+
+    /// What the second implementation replies to so many of the words, on the store given.
+    fn cut(&self, words: usize, store: &mut [u32]) -> raw::Batched {
+        let operations = self.operations[..words].to_vec();
+        let call = AnyCall::Lettered(Call::Batch { transaction: self.transaction, operations });
+        match second(&call, store, &mut []).numbers {
+            Numbers::Batched(batched) => batched,
+            other => panic!("{other:?} to a batch"),
+        }
+    }
+}
+
+fn operate(store: &mut [u32], transaction: u32, words: &[u32]) -> Outcome {
+    calls::operate(store, transaction, words[0], words[1], words[2], words[3])
+}
+
+/// The second implementation with a change to what it replies to batches, and to what it leaves.
+fn with_batched(
+    call: &AnyCall,
+    store: &mut [u32],
+    list: &mut [u8],
+    change: impl Fn(&mut raw::Batched, &mut [u32], &Asked),
+) -> Served {
+    let before = store.to_vec();
+    let mut served = second(call, store, list);
+    if let (Numbers::Batched(batched), AnyCall::Lettered(Call::Batch { transaction, operations })) =
+        (&mut served.numbers, call)
+    {
+        change(batched, store, &Asked { store: before, transaction: *transaction, operations });
+    }
+    served
+}
+
+/// Gives a batch these answers.
+fn answer(batched: &mut raw::Batched, answers: &[raw::Answer]) {
+    *batched = raw::Batched { code: 1, count: answers.len() as u32, ..raw::Batched::default() };
+    batched.answers[..answers.len()].copy_from_slice(answers);
+}
+
+/// The second implementation, but for one thing that it does with batches.
+const WRONG_WITH_BATCHES: [(&str, Desk); 13] = [
+    ("answers the operations before the first that waits", |call, store, list| {
+        with_batched(call, store, list, |batched, store, asked| {
+            if batched.refusal == 0 && batched.code == 0 {
+                let mut operations = asked.operations.chunks_exact(OPERATION);
+                let _ = operations
+                    .find(|words| !matches!(operate(store, asked.transaction, words), Ok(Reply::Answer { .. })));
+            }
+        })
+    }),
+    ("holds each operation alone to the limits", |call, store, list| {
+        with_batched(call, store, list, |batched, _, asked| {
+            if let (10 | 11, Some(answers)) = (batched.refusal, asked.answers_alone()) {
+                answer(batched, &answers);
+            }
+        })
+    }),
+    ("lets no operation see those before it", |call, store, list| {
+        with_batched(call, store, list, |batched, _, asked| {
+            if let (1, Some(answers)) = (batched.code, asked.answers_alone()) {
+                answer(batched, &answers);
+            }
+        })
+    }),
+    ("names the owners of the first operation that waits", |call, store, list| {
+        with_batched(call, store, list, |batched, _, asked| {
+            let wait = |outcome| matches!(outcome, Ok(Reply::Wait { .. })).then_some(outcome);
+            if let (0, 0, Some(Ok(Reply::Wait { owners, count }))) =
+                (batched.refusal, batched.code, asked.alone().find_map(wait))
+            {
+                (batched.owners, batched.count) = (owners, count);
+            }
+        })
+    }),
+    ("tests 12 after 7", |call, store, list| {
+        with_batched(call, store, list, |batched, _, asked| {
+            if batched.refusal == 12 && asked.store[status_word(asked.transaction as usize)] != 1 {
+                batched.refusal = 7;
+            }
+        })
+    }),
+    ("tells an empty batch to wait", |call, store, list| {
+        with_batched(call, store, list, |batched, _, asked| {
+            if asked.operations.is_empty() {
+                batched.code = 0;
+            }
+        })
+    }),
+    ("refuses an empty batch where the log is full", |call, store, list| {
+        with_batched(call, store, list, |batched, _, asked| {
+            if batched.code == 1 && asked.operations.is_empty() && asked.store[0] == LOG_LIMIT as u32 {
+                *batched = raw::Batched { refusal: 10, ..raw::Batched::default() };
+            }
+        })
+    }),
+    ("leaves out a part of an operation", |call, store, list| {
+        with_batched(call, store, list, |batched, store, asked| {
+            let part = asked.operations.len() % OPERATION;
+            if batched.refusal == 12 && part > 0 {
+                *batched = asked.cut(asked.operations.len() - part, store);
+            }
+        })
+    }),
+    ("serves the first sixteen of more", |call, store, list| {
+        with_batched(call, store, list, |batched, store, asked| {
+            if batched.refusal == 12 && asked.operations.len() == (BATCH_LIMIT + 1) * OPERATION {
+                *batched = asked.cut(BATCH_LIMIT * OPERATION, store);
+            }
+        })
+    }),
+    ("goes by the last operation with an 8 or 9 of its own", |call, store, list| {
+        with_batched(call, store, list, |batched, _, asked| {
+            let own = |outcome: Outcome| outcome.err().map(Refusal::number).filter(|number| [8, 9].contains(number));
+            if let (8 | 9, Some(number)) = (batched.refusal, asked.alone().rev().find_map(own)) {
+                batched.refusal = number;
+            }
+        })
+    }),
+    ("tests 10 before 8 and 9", |call, store, list| {
+        with_batched(call, store, list, |batched, _, asked| {
+            let entries = asked.store.first().map_or(0, |&entries| entries as usize);
+            if [8, 9].contains(&batched.refusal) && entries + asked.operations.len() / OPERATION > LOG_LIMIT {
+                batched.refusal = 10;
+            }
+        })
+    }),
+    ("has an answer to no operation", |call, store, list| {
+        with_batched(call, store, list, |batched, _, _| {
+            if batched.code == 1 && batched.count < BATCH_LIMIT as u32 {
+                batched.answers[BATCH_LIMIT - 1].code = 1;
+            }
+        })
+    }),
+    ("counts a batch's words", |call, store, list| {
+        with_batched(call, store, list, |batched, _, _| {
+            batched.count *= if batched.code == 1 { OPERATION as u32 } else { 1 };
+        })
+    }),
+];
+
 /// The second implementation, but for one thing.
 const WRONG_DESKS: [(&str, Desk); 14] = [
     ("writes a byte past the count", |call, store, list| {
@@ -496,7 +720,7 @@ fn wrong_desks_are_noticed() {
     for profile in &PROFILES {
         assert_eq!(walk(second, profile), Ok(()));
     }
-    for (what, desk) in WRONG_DESKS {
+    for (what, desk) in WRONG_DESKS.into_iter().chain(WRONG_WITH_BATCHES) {
         let noticed = PROFILES.iter().find_map(|profile| walk(desk, profile).err());
         let noticed = noticed.unwrap_or_else(|| panic!("not noticed: one that {what}"));
         assert!(!noticed.contains("panics"), "one that {what}: {noticed}");

@@ -20,7 +20,7 @@ impl Case {
         let (lines, replies) = transcript_lines(transcript)
             .map(|(call, reply)| (Line { bytes: call.into(), call: Some(call_of(call)) }, reply.to_string()))
             .unzip();
-        Case { script: Script { lines, open_end: false }, replies }
+        Case { script: Script { lines, ..Script::default() }, replies }
     }
 
     /// The case with another reply to one of its lines.
@@ -97,10 +97,31 @@ fn crowd_with(to: &str) -> Case {
     crowd().with(8, "wait 2 3 5", to)
 }
 
+/// Batches that are answered, whole and empty, wait for one or two, and are refused.
+fn group() -> Case {
+    Case::of(
+        "S 1 2                            ok
+         B 5                              ok
+         B 3                              ok
+         B 4                              ok
+         G 5 0 1 7 0 1 4 8 0 0 3 0 0      answer 1 0 1 0 1 7
+         I 3 1 4 9 0                      answer 1 0
+         G 4                              answer
+         G 4 0 1 6 0 1 6 8 0 1 6 9 0      wait 2 3 5
+         G 4 0 1 6 0 0 3 0 0              wait 1 5
+         G 4 0 1 6 0 16 0 0 0 0 4 0 0     refused 8
+         F 5                              committed 5
+         G 4 0 1 6 0 1 6 8 0              answer 1 0 1 0
+         I 4 0 2 0 0                      answer 1 6
+         F 4                              committed 4",
+    )
+}
+
 #[test]
 fn right_output_passes() {
     chain().assert_right();
     crowd().assert_right();
+    group().assert_right();
 }
 
 #[test]
@@ -140,7 +161,7 @@ fn replies_not_to_the_letter_are_noticed() {
     for to in ["committed 5 3 04", "committed 5 3 4 ", "committed  5 3 4", "Committed 5 3 4", "committed 5 3 +4", ""] {
         chain().with(9, "committed 5 3 4", to).assert_noticed_by_both(to);
     }
-    for to in ["answer 1", "answer 1 0 0", "answer 1 4294967296", "answer 2 0", "refused 0", "refused 12", "ok\r"] {
+    for to in ["answer 1", "answer 1 0 0", "answer 1 4294967296", "answer 2 0", "refused 0", "refused 13", "ok\r"] {
         chain().with(4, "answer 1 0", to).assert_noticed_by_both(to);
     }
     for to in ["wait", "wait 2", "wait 2 3", "wait 2 3 3", "wait 2 3 64", "wait 2 3 05", "wait 2 3 5 ", "wait +2 3 5"] {
@@ -149,14 +170,47 @@ fn replies_not_to_the_letter_are_noticed() {
 }
 
 #[test]
+fn changed_replies_to_batches_are_noticed() {
+    for (line, from, to) in [
+        (4, "answer 1 0 1 0 1 7", "answer 1 0 1 0"),
+        (4, "answer 1 0 1 0 1 7", "answer 1 0 1 0 1 7 1 0"),
+        (4, "answer 1 0 1 0 1 7", "answer 1 0 1 0 1"),
+        (4, "answer 1 0 1 0 1 7", "answer 1 0 1 0 1 07"),
+        (4, "answer 1 0 1 0 1 7", "answer 1 0  1 0 1 7"),
+        (4, "answer 1 0 1 0 1 7", "answer 1 7 1 0 1 0"),
+        (4, "answer 1 0 1 0 1 7", "answer 1 0"),
+        (4, "answer 1 0 1 0 1 7", "answer 1 0 2 0 1 7"),
+        (4, "answer 1 0 1 0 1 7", "answer"),
+        (4, "answer 1 0 1 0 1 7", "ok"),
+        (4, "answer 1 0 1 0 1 7", "unread"),
+        (4, "answer 1 0 1 0 1 7", "wait 1 5"),
+        (4, "answer 1 0 1 0 1 7", "refused 12"),
+        (5, "answer 1 0", "answer"),
+        (5, "answer 1 0", "answer 1 0 1 0"),
+        (6, "answer", "answer "),
+        (6, "answer", "answer 0 0"),
+        (6, "answer", "wait 0"),
+        (7, "wait 2 3 5", "wait 3 3 4 5"),
+        (7, "wait 2 3 5", "wait 2 5 3"),
+        (7, "wait 2 3 5", "wait 2 0 3"),
+        (7, "wait 2 3 5", "wait 3 3 5 5"),
+        (9, "refused 8", "refused 12"),
+    ] {
+        group().with(line, from, to).assert_noticed_by_both(&format!("line {line}: {to} and not {from}"));
+    }
+}
+
+#[test]
 fn missing_and_surplus_lines_are_noticed() {
-    for line in 0..chain().replies.len() {
-        let mut case = chain();
-        case.replies.remove(line);
-        case.assert_noticed_by_both("one missing");
-        let mut case = chain();
-        case.replies.insert(line, case.replies[line].clone());
-        case.assert_noticed_by_both("one too many");
+    for right in [chain, group] {
+        for line in 0..right().replies.len() {
+            let mut case = right();
+            case.replies.remove(line);
+            case.assert_noticed_by_both("one missing");
+            let mut case = right();
+            case.replies.insert(line, case.replies[line].clone());
+            case.assert_noticed_by_both("one too many");
+        }
     }
 }
 
@@ -321,4 +375,76 @@ fn desk_that_names_owners_in_another_order_is_noticed() {
 #[test]
 fn desk_that_waits_for_nobody_is_noticed() {
     crowd_with("wait 0").assert_noticed_by_both("4 should wait for 3 and 5");
+}
+
+// What a desk would print that serves a batch otherwise than entirely, in order, or not at all.
+
+#[test]
+fn desk_that_answers_half_of_a_batch_that_waits_is_noticed() {
+    let case = Case::of(
+        "S 1 2                        ok
+         B 0                          ok
+         B 1                          ok
+         I 0 1 4 8 0                  answer 1 0
+         G 1 0 1 6 0 1 6 8 0          wait 1 0
+         C 0                          cancelled
+         I 1 0 2 0 0                  answer 1 6",
+    );
+    case.assert_noticed_by_both("the push of a batch that waits is entered");
+}
+
+#[test]
+fn desk_that_shows_no_operation_those_before_it_is_noticed() {
+    let line = "answer 1 0 1 0 1 7";
+    group().with(4, line, "answer 1 0 1 0 0 0").assert_noticed_by_both("top should see the push before it");
+}
+
+#[test]
+fn desk_that_serves_a_batch_from_its_end_is_noticed() {
+    let case = Case::of(
+        "S 1                          ok
+         B 0                          ok
+         G 0 0 1 6 0 0 1 7 0          answer 1 0 1 0
+         I 0 0 2 0 0                  answer 1 6",
+    );
+    case.assert_noticed_by_both("7 should lie on top");
+}
+
+#[test]
+fn desk_that_tells_an_empty_batch_to_wait_is_noticed() {
+    group().with(6, "answer", "wait 1 5").assert_noticed_by_both("no operation waits");
+}
+
+/// Demand 3 lets it through: who waits changes nothing, whomever it waits for.
+#[test]
+fn desk_that_names_the_owners_of_one_operation_alone_is_noticed_by_comparison() {
+    for to in ["wait 1 5", "wait 1 3"] {
+        let case = group().with(7, "wait 2 3 5", to);
+        assert_eq!(case.difference(), Some(7));
+        assert_eq!(case.broken(), None);
+    }
+}
+
+/// Demand 3 lets it through: a refusal changes nothing, whatever its number.
+#[test]
+fn desk_that_goes_by_the_last_bad_operation_is_noticed_by_comparison() {
+    let case = group().with(9, "refused 8", "refused 9");
+    assert_eq!(case.difference(), Some(9));
+    assert_eq!(case.broken(), None);
+}
+
+/// Demand 3 lets it through: a history is served without limits.
+#[test]
+fn desk_that_holds_each_operation_alone_to_the_limits_is_noticed_by_comparison() {
+    let taken = |line: &str, answer: &str, times: usize| format!("{line}  {answer}\n").repeat(times);
+    let pushes = taken("I 0 0 1 7 0", "answer 1 0", 63);
+    let looks = taken("I 0 0 3 0 0", "answer 1 7", 192);
+    for (calls, batch, answers) in [
+        (pushes.clone(), "G 0 0 1 8 0 0 1 9 0", "answer 1 0 1 0"),
+        (pushes + &looks, "G 0 0 3 0 0 0 3 0 0", "answer 1 7 1 7"),
+    ] {
+        let case = Case::of(&format!("S 1  ok\nB 0  ok\n{calls}{batch}  {answers}\n"));
+        assert_eq!(case.difference(), Some(case.replies.len() - 1));
+        assert_eq!(case.broken(), None);
+    }
 }

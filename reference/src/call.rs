@@ -5,11 +5,30 @@ use crate::{calls, Outcome};
 /// A call that has a letter in scripts.
 #[derive(Clone, Debug, PartialEq, Eq)]
 pub enum Call {
-    SetUp { kinds: Vec<u8> },
-    Begin { transaction: u32 },
-    Operate { transaction: u32, object: u32, operation: u32, key: u32, value: u32 },
-    Finish { transaction: u32 },
-    Cancel { transaction: u32 },
+    SetUp {
+        kinds: Vec<u8>,
+    },
+    Begin {
+        transaction: u32,
+    },
+    Operate {
+        transaction: u32,
+        object: u32,
+        operation: u32,
+        key: u32,
+        value: u32,
+    },
+    /// The operations as words, four for each.
+    Batch {
+        transaction: u32,
+        operations: Vec<u32>,
+    },
+    Finish {
+        transaction: u32,
+    },
+    Cancel {
+        transaction: u32,
+    },
 }
 
 impl Call {
@@ -21,6 +40,7 @@ impl Call {
             Call::Operate { transaction, object, operation, key, value } => {
                 calls::operate(store, transaction, object, operation, key, value)
             }
+            Call::Batch { transaction, ref operations } => calls::batch(store, transaction, operations),
             Call::Finish { transaction } => calls::finish(store, transaction, list),
             Call::Cancel { transaction } => calls::cancel(store, transaction, list),
         }

@@ -45,19 +45,32 @@ impl Footprints {
 
     /// The owners for a key, asked for at most once for each log entry.
     pub fn at(&mut self, object: usize, key: u32) -> &mut Owners {
-        let place = (object as u64) << u32::BITS | u64::from(key);
-        let mut slot = (place.wrapping_mul(0x9E37_79B9_7F4A_7C15) >> (u64::BITS - SLOTS.trailing_zeros())) as usize;
-        loop {
-            match self.slots[slot] {
-                FREE => {
-                    self.slots[slot] = self.places.len() as u16;
-                    self.places.push((place, Owners::default()));
-                }
-                index if self.places[usize::from(index)].0 == place => {
-                    return &mut self.places[usize::from(index)].1;
-                }
-                _ => slot = (slot + 1) % SLOTS,
-            }
+        let place = place(object, key);
+        let slot = self.slot(place);
+        if self.slots[slot] == FREE {
+            self.slots[slot] = self.places.len() as u16;
+            self.places.push((place, Owners::default()));
         }
+        &mut self.places[usize::from(self.slots[slot])].1
     }
+
+    /// The owners for a key, nobody where no entry has it.
+    pub fn get(&self, object: usize, key: u32) -> Owners {
+        let slot = self.slot(place(object, key));
+        self.places.get(usize::from(self.slots[slot])).map_or_else(Owners::default, |&(_, owners)| owners)
+    }
+
+    /// The slot of a place: the free one that it would take where it has none.
+    fn slot(&self, place: u64) -> usize {
+        let mut slot = (place.wrapping_mul(0x9E37_79B9_7F4A_7C15) >> (u64::BITS - SLOTS.trailing_zeros())) as usize;
+        while self.slots[slot] != FREE && self.places[usize::from(self.slots[slot])].0 != place {
+            slot = (slot + 1) % SLOTS;
+        }
+        slot
+    }
+}
+
+/// An object's key as one number.
+fn place(object: usize, key: u32) -> u64 {
+    (object as u64) << u32::BITS | u64::from(key)
 }

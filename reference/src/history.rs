@@ -222,9 +222,12 @@ impl History {
                 self.live.insert(transaction);
             }
             (&Call::Operate { transaction, object, operation, key, value }, Reply::Answer { code, value: given }) => {
-                let key = self.empty.get(object).map_or(key, |object| object.reduced(key));
-                let answer = (code, given);
-                self.uncommitted.push(Answered { transaction, object, operation, key, value, answer });
+                self.note(transaction, &[object, operation, key, value], (code, given));
+            }
+            (Call::Batch { transaction, operations }, Reply::Answers(answers)) => {
+                for (words, answer) in operations.chunks(4).zip(answers.as_slice()) {
+                    self.note(*transaction, words, (answer.code, answer.value));
+                }
             }
             (Call::Finish { .. }, Reply::Committed { count }) => self.commit(list, count),
             (&Call::Finish { transaction }, Reply::Circle { count })
@@ -252,6 +255,14 @@ impl History {
     pub fn serve_dropping(&self, committed: &Objects, dropped: &BTreeSet<u32>) -> Result<(), Altered> {
         let kept = self.uncommitted.iter().filter(|operation| !dropped.contains(&operation.transaction));
         committed.clone().serve_again(kept)
+    }
+
+    /// Puts an operation, given as its words, last among those of live transactions.
+    fn note(&mut self, transaction: u32, words: &[u32], answer: Answer) {
+        if let [object, operation, key, value] = *words {
+            let key = self.empty.get(object).map_or(key, |object| object.reduced(key));
+            self.uncommitted.push(Answered { transaction, object, operation, key, value, answer });
+        }
     }
 
     fn commit(&mut self, list: &[u8], count: usize) {

@@ -19,4 +19,5 @@ pub mod script;
 pub mod soundness;
 mod transactions;
 
-pub use reply::{Outcome, Refusal, Reply};
+pub use operations::Answer;
+pub use reply::{Answers, Outcome, Refusal, Reply};

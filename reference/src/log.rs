@@ -58,13 +58,6 @@ pub fn read(words: &[u32]) -> impl Iterator<Item = Option<Entry>> + '_ {
     words.chunks_exact(ENTRY_WORDS).map(Entry::read)
 }
 
-/// The entries of a sound store on an object.
-pub fn entries_on(store: &Words, object: usize) -> impl Iterator<Item = Entry> + '_ {
-    let used = &layout::log(store)[..length(store) * ENTRY_WORDS];
-    let on_object = used.chunks_exact(ENTRY_WORDS).filter(move |words| words[1] as usize == object);
-    on_object.filter_map(Entry::read)
-}
-
 /// Enters one at the end of a log that isn't full.
 pub fn push(store: &mut Words, entry: &Entry) {
     let start = length(store) * ENTRY_WORDS;

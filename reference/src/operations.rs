@@ -6,6 +6,17 @@ use crate::rows::Rows;
 /// What keys of sets and tables are reduced by: the eight bits above are the maker's mark.
 const KEY_MODULUS: u32 = 1 << 24;
 
+/// Operations that a batch may have.
+pub const BATCH: usize = 16;
+
+/// Words that an operation of a batch is lent as: object, operation, key or item, value.
+pub const OPERATION_WORDS: usize = 4;
+
+/// Whether words are operations of a batch: whole ones, and no more than it may have.
+pub fn are_batch(words: &[u32]) -> bool {
+    words.len() <= BATCH * OPERATION_WORDS && words.len() % OPERATION_WORDS == 0
+}
+
 /// A key of a set or table as rows and log hold it.
 pub fn reduced(key: u32) -> u32 {
     key % KEY_MODULUS
@@ -116,7 +127,7 @@ pub struct Answer {
 
 impl Answer {
     const YES: Answer = Answer { code: 1, value: 0 };
-    const NO: Answer = Answer { code: 0, value: 0 };
+    pub(crate) const NO: Answer = Answer { code: 0, value: 0 };
 
     /// 1 and the value, or 0 0 where there is none.
     fn found(value: Option<u32>) -> Answer {

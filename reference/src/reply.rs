@@ -1,5 +1,7 @@
 //! What the calls say: replies, and reasons for saying no.
 
+use crate::operations::{Answer, BATCH};
+
 /// Why a call is refused; the discriminant is the paper's number.
 #[derive(Clone, Copy, Debug, PartialEq, Eq, PartialOrd, Ord, Hash)]
 #[repr(u8)]
@@ -15,6 +17,7 @@ pub enum Refusal {
     Operation = 9,
     LogFull = 10,
     RowsFull = 11,
+    Operations = 12,
 }
 
 impl Refusal {
@@ -33,6 +36,8 @@ pub enum Reply {
         code: u32,
         value: u32,
     },
+    /// A batch's.
+    Answers(Answers),
     /// Told to wait: the owners of the entries that force it, one bit each, and their number.
     Wait {
         owners: u64,
@@ -50,6 +55,31 @@ pub enum Reply {
     Cancelled {
         count: usize,
     },
+}
+
+/// What the operations of a batch are answered, in order.
+#[derive(Clone, Copy, Debug, PartialEq, Eq)]
+pub struct Answers {
+    /// Those past the count are all the same, so that batches answered alike compare equal.
+    answers: [Answer; BATCH],
+    count: usize,
+}
+
+impl Answers {
+    /// Those of an empty batch.
+    pub fn none() -> Answers {
+        Answers { answers: [Answer::NO; BATCH], count: 0 }
+    }
+
+    /// Adds the next operation's. There are fewer than a batch may have operations.
+    pub fn push(&mut self, answer: Answer) {
+        self.answers[self.count] = answer;
+        self.count += 1;
+    }
+
+    pub fn as_slice(&self) -> &[Answer] {
+        &self.answers[..self.count]
+    }
 }
 
 /// What a call says.

@@ -4,15 +4,18 @@ use std::io::{self, BufWriter, ErrorKind, Read, Write};
 
 use crate::call::Call;
 use crate::layout::{OBJECTS, TRANSACTIONS, WORDS};
+use crate::operations::{are_batch, BATCH, OPERATION_WORDS};
 use crate::transactions::{members, TransactionSet};
-use crate::{Outcome, Reply};
+use crate::{Answers, Outcome, Reply};
 
 /// Bytes read or written at once.
 const BLOCK: usize = 1 << 16;
 /// Digits of a number, leading zeros among them.
 const MOST_DIGITS: usize = 10;
-/// The longest line that is a call: `S` with a kind for each object, each after a space.
-const LONGEST_CALL: usize = 1 + OBJECTS * (1 + MOST_DIGITS);
+/// The most numbers of a call: a transaction and the operations of a batch.
+const MOST_NUMBERS: usize = 1 + BATCH * OPERATION_WORDS;
+/// The longest line that is a call: `G` with so many numbers, each after a space.
+const LONGEST_CALL: usize = 1 + MOST_NUMBERS * (1 + MOST_DIGITS);
 
 /// The call that a line, without its line feed, stands for; none where it is `unread`.
 pub fn parse(line: &[u8]) -> Option<Call> {
@@ -27,6 +30,7 @@ pub fn parse(line: &[u8]) -> Option<Call> {
             key,
             value,
         }),
+        b"G" => batch(fields),
         b"F" => numbers(fields).map(|[transaction]| Call::Finish { transaction }),
         b"C" => numbers(fields).map(|[transaction]| Call::Cancel { transaction }),
         _ => None,
@@ -40,6 +44,13 @@ fn kinds<'a>(fields: impl Iterator<Item = &'a [u8]>) -> Option<Vec<u8>> {
         *kinds.get_mut(index)? = number(field)?.try_into().ok()?;
     }
     Some(kinds)
+}
+
+/// A transaction, and up to 16 operations of four numbers each.
+fn batch<'a>(mut fields: impl Iterator<Item = &'a [u8]>) -> Option<Call> {
+    let transaction = number(fields.next()?)?;
+    let operations = fields.take(MOST_NUMBERS).map(number).collect::<Option<Vec<u32>>>()?;
+    are_batch(&operations).then_some(Call::Batch { transaction, operations })
 }
 
 /// Exactly N numbers.
@@ -163,6 +174,7 @@ fn print(output: &mut impl Write, outcome: Outcome, list: &[u8]) -> io::Result<(
     let (word, count) = match outcome {
         Err(refusal) => return writeln!(output, "refused {}", refusal.number()),
         Ok(Reply::Answer { code, value }) => return writeln!(output, "answer {code} {value}"),
+        Ok(Reply::Answers(answers)) => return print_answers(output, &answers),
         Ok(Reply::Wait { owners, count }) => return print_wait(output, owners, count),
         Ok(Reply::Ok) => ("ok", 0),
         Ok(Reply::Finished) => ("finished", 0),
@@ -174,6 +186,13 @@ fn print(output: &mut impl Write, outcome: Outcome, list: &[u8]) -> io::Result<(
     for transaction in &list[..count] {
         write!(output, " {transaction}")?;
     }
+    output.write_all(b"\n")
+}
+
+/// Prints the code and the value of each answer, all on one line.
+fn print_answers(output: &mut impl Write, answers: &Answers) -> io::Result<()> {
+    output.write_all(b"answer")?;
+    answers.as_slice().iter().try_for_each(|answer| write!(output, " {} {}", answer.code, answer.value))?;
     output.write_all(b"\n")
 }
 

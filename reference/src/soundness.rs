@@ -5,7 +5,7 @@ use crate::layout::{self, ObjectWords, Words, ENTRY_WORDS, KIND, OBJECTS, ROWS, 
 use crate::log::{self, Entry};
 use crate::operations::{reduced, Answer, Kind, Operation, Request};
 use crate::rules::{COMMUTING, RECOVERABLE};
-use crate::transactions::{members, only, Dependencies, Statuses};
+use crate::transactions::{members, only, Dependencies, Statuses, TransactionSet};
 
 /// Whether `words`, of any number and contents, are a sound store.
 pub fn sound(words: &[u32]) -> bool {
@@ -21,11 +21,11 @@ pub(crate) struct Analysis {
 impl Analysis {
     /// None where the store isn't sound.
     pub fn of(store: &Words) -> Option<Analysis> {
-        Analysis::with_replays(store, &mut Replays::none())
+        Analysis::with_traces(store, &mut Traces::none())
     }
 
-    /// As `of`, and leaves the objects that the log touches in `replays`, which has none yet.
-    pub fn with_replays(store: &Words, replays: &mut Replays) -> Option<Analysis> {
+    /// As `of`, and leaves the traces of the log in `traces`, which has none yet.
+    pub fn with_traces(store: &Words, traces: &mut Traces) -> Option<Analysis> {
         let statuses = Statuses::read(layout::statuses(store))?;
         let (log, unused) = log::split(store)?;
         let objects_sound = (0..OBJECTS).all(|object| object_sound(layout::object(store, object)));
@@ -34,14 +34,16 @@ impl Analysis {
         }
         let mut analysis = Analysis { statuses, dependencies: Dependencies::none() };
         if !log.is_empty() {
-            analysis.replay(store, log, replays)?;
+            analysis.replay(store, log, traces)?;
         }
         analysis.pseudo_commits_sound().then_some(analysis)
     }
 
     /// Replays a log; none at the first entry that breaks soundness.
-    fn replay(&mut self, store: &Words, log: &[u32], replays: &mut Replays) -> Option<()> {
-        let mut footprints = Footprints::new(log.len() / ENTRY_WORDS);
+    fn replay(&mut self, store: &Words, log: &[u32], traces: &mut Traces) -> Option<()> {
+        let Traces { replays, footprints } = traces;
+        replays.reserve(OBJECTS);
+        let footprints = footprints.insert(Footprints::new(log.len() / ENTRY_WORDS));
         log::read(log).try_for_each(|entry| {
             let entry = entry?;
             let same_key = footprints.at(entry.object, entry.request.key);
@@ -74,6 +76,35 @@ impl Analysis {
     }
 }
 
+/// What the replay of a log leaves behind, for requests to run and be tried against.
+pub(crate) struct Traces {
+    pub replays: Replays,
+    /// None where the log is empty.
+    footprints: Option<Footprints>,
+}
+
+impl Traces {
+    pub fn none() -> Traces {
+        Traces { replays: Replays::none(), footprints: None }
+    }
+
+    /// The owners of all entries of other transactions on the object that the request isn't recoverable against.
+    pub fn conflicting_owners(
+        &mut self,
+        store: &Words,
+        transaction: usize,
+        object: usize,
+        request: Request,
+    ) -> TransactionSet {
+        let Traces { replays, footprints } = self;
+        let owners = footprints.as_ref().map_or(0, |footprints| {
+            let same_key = footprints.get(object, request.key);
+            Owners::disallowed(RECOVERABLE.row(request.operation), &same_key, &replays.of(store, object).owners)
+        });
+        owners & !only(transaction)
+    }
+}
+
 /// Objects as the log leaves them: those that it touches, copied from the store when first asked for.
 pub(crate) struct Replays {
     touched: Vec<Replay>,
@@ -86,30 +117,28 @@ impl Replays {
         Replays { touched: Vec::new(), places: [None; OBJECTS] }
     }
 
-    fn of(&mut self, store: &Words, object: usize) -> &mut Replay {
+    /// Makes space for the objects that so many more requests touch.
+    pub fn reserve(&mut self, requests: usize) {
+        let untouched = OBJECTS - self.touched.len();
+        self.touched.reserve_exact(requests.min(untouched));
+    }
+
+    #[inline] // into the loop over the log
+    pub fn of(&mut self, store: &Words, object: usize) -> &mut Replay {
         let Replays { touched, places } = self;
         let place = *places[object].get_or_insert_with(|| {
             let place = touched.len();
-            touched.reserve(OBJECTS - place);
             touched.push(Replay::new(layout::object(store, object)));
             place as u8
         });
         &mut touched[usize::from(place)]
     }
-
-    /// The object, taken out.
-    pub fn take(mut self, store: &Words, object: usize) -> Replay {
-        match self.places[object] {
-            Some(place) => self.touched.swap_remove(usize::from(place)),
-            None => Replay::new(layout::object(store, object)),
-        }
-    }
 }
 
-/// An object as its rows and its log entries so far leave it.
+/// An object as its rows, its log entries so far and what is run after them leave it.
 pub(crate) struct Replay {
     words: ObjectWords,
-    /// Rows plus logged pushes and inserts.
+    /// Rows plus pushes and inserts that ran.
     claimed: usize,
     owners: Owners,
 }
@@ -123,7 +152,7 @@ impl Replay {
         Kind::from_number(self.words[KIND])
     }
 
-    /// Whether rows and logged pushes and inserts leave space for what the operation may add.
+    /// Whether rows and pushes and inserts before it leave space for what the operation may add.
     pub fn has_room_for(&self, operation: Operation) -> bool {
         !operation.adds() || self.claimed < ROWS
     }

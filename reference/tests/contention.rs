@@ -14,10 +14,10 @@ use common::{
     Scheduler, LOG_LIMIT, WORDS,
 };
 use reference::call::Call;
-use reference::calls::{contents, contents_count};
+use reference::calls::{contents, contents_count, operate};
 use reference::history::History;
 use reference::soundness::sound;
-use reference::{Outcome, Refusal, Reply};
+use reference::{Answer, Outcome, Refusal, Reply};
 
 /// What a call list is drawn from.
 struct Profile {
@@ -25,8 +25,8 @@ struct Profile {
     kinds: &'static [u8],
     transactions: usize,
     keys: usize,
-    /// Begin, operate, finish, cancel.
-    weights: [usize; 4],
+    /// Begin, operate, batch, finish, cancel.
+    weights: [usize; 5],
     /// Of a hundred operations, how many push or insert.
     adding: usize,
     /// Of a hundred calls, how many have arguments from anywhere.
@@ -35,13 +35,13 @@ struct Profile {
     lists: u64,
 }
 
-const PROFILES: [Profile; 9] = [
+const PROFILES: [Profile; 10] = [
     Profile {
         name: "stacks, for cycles",
         kinds: &[1, 1, 1],
         transactions: 5,
         keys: 3,
-        weights: [25, 60, 13, 2],
+        weights: [25, 60, 10, 13, 2],
         adding: 90,
         wild: 2,
         calls: 80,
@@ -52,7 +52,7 @@ const PROFILES: [Profile; 9] = [
         kinds: &[1, 2, 3],
         transactions: 6,
         keys: 3,
-        weights: [25, 60, 11, 4],
+        weights: [25, 60, 12, 11, 4],
         adding: 50,
         wild: 4,
         calls: 100,
@@ -63,7 +63,7 @@ const PROFILES: [Profile; 9] = [
         kinds: &[3, 3],
         transactions: 8,
         keys: 2,
-        weights: [25, 62, 10, 3],
+        weights: [25, 62, 12, 10, 3],
         adding: 35,
         wild: 2,
         calls: 100,
@@ -74,7 +74,7 @@ const PROFILES: [Profile; 9] = [
         kinds: &[2, 2],
         transactions: 7,
         keys: 3,
-        weights: [25, 60, 12, 3],
+        weights: [25, 60, 12, 12, 3],
         adding: 50,
         wild: 2,
         calls: 100,
@@ -85,7 +85,7 @@ const PROFILES: [Profile; 9] = [
         kinds: &[1, 2, 3],
         transactions: 2,
         keys: 2,
-        weights: [30, 45, 18, 7],
+        weights: [30, 45, 10, 18, 7],
         adding: 40,
         wild: 2,
         calls: 120,
@@ -96,18 +96,29 @@ const PROFILES: [Profile; 9] = [
         kinds: &[1, 0, 2, 0, 3],
         transactions: 6,
         keys: 3,
-        weights: [25, 60, 10, 5],
+        weights: [25, 60, 20, 10, 5],
         adding: 50,
         wild: 60,
         calls: 100,
         lists: 500,
     },
     Profile {
+        name: "batches",
+        kinds: &[1, 2, 3, 2],
+        transactions: 5,
+        keys: 5,
+        weights: [25, 10, 60, 14, 5],
+        adding: 40,
+        wild: 4,
+        calls: 80,
+        lists: 700,
+    },
+    Profile {
         name: "many live",
         kinds: &[1, 2, 3, 1],
         transactions: 64,
         keys: 6,
-        weights: [30, 50, 18, 2],
+        weights: [30, 50, 10, 18, 2],
         adding: 60,
         wild: 1,
         calls: 250,
@@ -118,7 +129,7 @@ const PROFILES: [Profile; 9] = [
         kinds: &[1, 2, 3],
         transactions: 4,
         keys: 100,
-        weights: [12, 87, 1, 0],
+        weights: [12, 60, 30, 1, 0],
         adding: 92,
         wild: 1,
         calls: 400,
@@ -129,7 +140,7 @@ const PROFILES: [Profile; 9] = [
         kinds: &[1, 2, 3, 1, 2, 3, 1, 2, 3, 1, 2, 3, 1, 2, 3],
         transactions: 5,
         keys: 40,
-        weights: [9, 90, 1, 0],
+        weights: [9, 15, 75, 1, 0],
         adding: 50,
         wild: 1,
         calls: 600,
@@ -146,9 +157,17 @@ const CASCADE: &str = "two or more others committed";
 const WAIT_FOR_SEVERAL: &str = "wait for two or more";
 const WAIT_FOR_PSEUDO_COMMITTED: &str = "wait for a pseudo-committed one";
 const WAIT_FOR_TRANSACTION_63: &str = "wait for transaction 63";
+const EMPTY_BATCH: &str = "empty batch answered";
+const SEVERAL_ANSWERED: &str = "batch of several answered";
+const SIXTEEN_ANSWERED: &str = "batch of sixteen answered";
+const OWNERS_JOINED: &str = "batch that joins owners";
+const LATE_WAIT: &str = "batch whose first would not wait";
+const LATE_10: &str = "batch whose first has no 10";
+const LATE_11: &str = "batch whose first has no 11";
+const LATE_OWN: &str = "batch whose first has no 8 or 9";
 
 /// The rows of the table that the run prints; each must occur often enough.
-const ROWS: [&str; 23] = [
+const ROWS: [&str; 32] = [
     "ok",
     "answer",
     "wait",
@@ -167,11 +186,20 @@ const ROWS: [&str; 23] = [
     "refused 9",
     "refused 10",
     "refused 11",
+    "refused 12",
     CIRCLE_WITH_COMMITS,
     CASCADE,
     WAIT_FOR_SEVERAL,
     WAIT_FOR_PSEUDO_COMMITTED,
     WAIT_FOR_TRANSACTION_63,
+    EMPTY_BATCH,
+    SEVERAL_ANSWERED,
+    SIXTEEN_ANSWERED,
+    OWNERS_JOINED,
+    LATE_WAIT,
+    LATE_10,
+    LATE_11,
+    LATE_OWN,
 ];
 const FIRST_REFUSAL_ROW: usize = 7;
 const OFTEN_ENOUGH: u64 = 100;
@@ -192,7 +220,7 @@ impl Tally {
     fn count(&mut self, outcome: Outcome) {
         let (row, others) = match outcome {
             Ok(Reply::Ok) => ("ok", 0),
-            Ok(Reply::Answer { .. }) => ("answer", 0),
+            Ok(Reply::Answer { .. } | Reply::Answers(_)) => ("answer", 0),
             Ok(Reply::Wait { .. }) => ("wait", 0),
             Ok(Reply::Finished) => ("finished", 0),
             Ok(Reply::Committed { count }) => ("committed", count - 1),
@@ -233,6 +261,44 @@ fn serve_checked(call: &Call, store: &mut [u32], list: &mut [u8]) -> Outcome {
         assert_same_words(store, &store_before);
     }
     outcome
+}
+
+/// Makes a batch's operations singly, each after the one before, up to the first that isn't answered; asserts that this
+/// agrees with what was said to the batch, and says what was said to the operations.
+fn serve_singly(call: &Call, outcome: Outcome, before: &[u32], after: &[u32]) -> Vec<Outcome> {
+    let (transaction, operations) = match call {
+        Call::Batch { transaction, operations } => (*transaction, operations),
+        _ => return Vec::new(),
+    };
+    let mut store = before.to_vec();
+    let mut said = Vec::new();
+    for words in operations.chunks_exact(4) {
+        said.push(operate(&mut store, transaction, words[0], words[1], words[2], words[3]));
+        if !matches!(said.last(), Some(Ok(Reply::Answer { .. }))) {
+            break;
+        }
+    }
+    if let Ok(Reply::Answers(answers)) = outcome {
+        let answers = answers.as_slice().iter().map(|&Answer { code, value }| Ok(Reply::Answer { code, value }));
+        assert!(answers.eq(said.iter().copied()), "singly: {said:?}");
+        assert_same_words(after, &store);
+    } else if let Some(&last) = said.last() {
+        assert!(agree(outcome, last), "singly: {said:?}");
+    }
+    said
+}
+
+/// Whether what is said to a batch that isn't answered goes with what is said to the first of its operations that isn't
+/// when each is made singly.
+fn agree(batch: Outcome, single: Outcome) -> bool {
+    let full_or_wait = matches!(single, Err(Refusal::LogFull | Refusal::RowsFull) | Ok(Reply::Wait { .. }));
+    match (batch, single) {
+        (Ok(Reply::Wait { owners: joined, .. }), Ok(Reply::Wait { owners, .. })) => owners & !joined == 0,
+        (Err(Refusal::Operations), _) => true,
+        (Err(Refusal::LogFull | Refusal::RowsFull), _) => full_or_wait,
+        (Err(Refusal::Object | Refusal::Operation), _) => full_or_wait || batch == single,
+        _ => batch == single,
+    }
 }
 
 /// The calls of a list that were not refused, and the one being made; printed when a check fails.
@@ -295,9 +361,11 @@ impl Run<'_> {
         self.trail.calls.push(call.clone());
         self.trail.list_length = list.len();
 
+        let before = self.store.clone();
         let outcome = serve_checked(&call, &mut self.store, &mut list);
         self.tally.count(outcome);
         self.count_owners(outcome);
+        self.count_batch(&call, outcome, &serve_singly(&call, outcome, &before, &self.store));
         let listed = &list[..listed_count(outcome)];
         let mut transactions = listed.iter().copied().map(u32::from);
         assert!(transactions.all(|transaction| self.history.live().contains(&transaction)), "not live: {listed:?}");
@@ -318,6 +386,26 @@ impl Run<'_> {
             self.tally.add(WAIT_FOR_PSEUDO_COMMITTED, u64::from(self.finished.iter().any(named)));
             self.tally.add(WAIT_FOR_TRANSACTION_63, u64::from(named(&63)));
         }
+    }
+
+    /// Counts what is told of a batch, whose operations were told so when made singly.
+    fn count_batch(&mut self, call: &Call, outcome: Outcome, singly: &[Outcome]) {
+        let joined = matches!((outcome, singly.last()), (Ok(Reply::Wait { .. }), Some(&last)) if last != outcome);
+        self.tally.add(OWNERS_JOINED, u64::from(joined));
+        let row = match (call, outcome) {
+            (Call::Batch { .. }, Ok(Reply::Answers(answers))) => match answers.as_slice().len() {
+                0 => EMPTY_BATCH,
+                1 => return,
+                16 => SIXTEEN_ANSWERED,
+                _ => SEVERAL_ANSWERED,
+            },
+            (Call::Batch { .. }, Ok(Reply::Wait { .. })) if singly.len() > 1 => LATE_WAIT,
+            (Call::Batch { .. }, Err(Refusal::LogFull)) if singly.len() > 1 => LATE_10,
+            (Call::Batch { .. }, Err(Refusal::RowsFull)) if singly.len() > 1 => LATE_11,
+            (Call::Batch { .. }, Err(Refusal::Object | Refusal::Operation)) if singly.len() > 1 => LATE_OWN,
+            _ => return,
+        };
+        self.tally.add(row, 1);
     }
 
     /// Keeps the pseudo-committed ones in order of finishing.
@@ -415,7 +503,8 @@ impl Run<'_> {
         let call = match self.draws.weighted(&self.profile.weights) {
             0 => Call::Begin { transaction: self.draw_transaction(0) },
             1 => self.draw_operation(),
-            2 => Call::Finish { transaction: self.draw_transaction(1) },
+            2 => self.draw_batch(),
+            3 => Call::Finish { transaction: self.draw_transaction(1) },
             _ => Call::Cancel { transaction: self.draw_transaction(1) },
         };
         if self.draws.percent(self.profile.wild) {
@@ -440,12 +529,30 @@ impl Run<'_> {
 
     fn draw_operation(&mut self) -> Call {
         let transaction = self.draw_transaction(1);
+        let [object, operation, key, value] = self.draw_words();
+        Call::Operate { transaction, object, operation, key, value }
+    }
+
+    /// A batch, mostly a short one.
+    fn draw_batch(&mut self) -> Call {
+        let transaction = self.draw_transaction(1);
+        let count = match self.draws.below(20) {
+            0 => 0,
+            1 => 16,
+            2 | 3 => 1 + self.draws.below(16),
+            _ => 1 + self.draws.below(4),
+        };
+        Call::Batch { transaction, operations: (0..count).flat_map(|_| self.draw_words()).collect() }
+    }
+
+    /// An operation with its object, key and value.
+    fn draw_words(&mut self) -> [u32; 4] {
         let object = self.draws.below(self.profile.kinds.len());
         let operation = self.draw_operation_of(self.profile.kinds[object]);
         let mark = if self.draws.percent(25) { self.draws.word() << 24 } else { 0 };
         let key = self.draws.below(self.profile.keys) as u32 | mark;
         let value = self.draws.below(4) as u32;
-        Call::Operate { transaction, object: object as u32, operation, key, value }
+        [object as u32, operation, key, value]
     }
 
     fn draw_operation_of(&mut self, kind: u8) -> u32 {
@@ -479,14 +586,26 @@ impl Run<'_> {
                 *transaction = self.draw_anything();
             }
             Call::Operate { transaction, object, operation, key, value } => {
-                for argument in [transaction, object, operation, key, value] {
-                    if self.draws.percent(25) {
-                        *argument = self.draw_anything();
-                    }
+                self.make_wild(25, [transaction, object, operation, key, value]);
+            }
+            Call::Batch { transaction, operations } => {
+                self.make_wild(10, [transaction]);
+                self.make_wild(5, operations.iter_mut());
+                if self.draws.percent(30) {
+                    operations.resize(self.draws.below(80), 1);
                 }
             }
         }
         call
+    }
+
+    /// Has each of the arguments come from anywhere, with such a chance.
+    fn make_wild<'a>(&mut self, chance: usize, arguments: impl IntoIterator<Item = &'a mut u32>) {
+        for argument in arguments {
+            if self.draws.percent(chance) {
+                *argument = self.draw_anything();
+            }
+        }
     }
 
     fn draw_anything(&mut self) -> u32 {
@@ -545,7 +664,7 @@ fn run_all() -> Tally {
 fn print_table(tally: &Tally) -> io::Result<()> {
     let mut stderr = io::stderr().lock();
     writeln!(stderr, "\nrandom call lists: {}", PROFILES.iter().map(|profile| profile.lists).sum::<u64>())?;
-    ROWS.iter().try_for_each(|row| writeln!(stderr, "{row:<30}{:>10}", tally.of(row)))
+    ROWS.iter().try_for_each(|row| writeln!(stderr, "{row:<32}{:>10}", tally.of(row)))
 }
 
 #[test]

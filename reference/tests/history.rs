@@ -6,16 +6,24 @@ use std::collections::BTreeSet;
 
 use common::{call_of, WHOLE_CASE};
 use reference::history::{Altered, History, Objects};
-use reference::{Outcome, Refusal, Reply};
+use reference::{Answer, Answers, Outcome, Refusal, Reply};
 
-/// The outcome and the list of a printed reply.
-fn outcome_of(reply: &str) -> (Outcome, Vec<u8>) {
+/// The answers that printed codes and values stand for.
+fn answers_of(numbers: &[u32]) -> Answers {
+    let mut answers = Answers::none();
+    numbers.chunks(2).for_each(|pair| answers.push(Answer { code: pair[0], value: pair[1] }));
+    answers
+}
+
+/// The outcome and the list of a line's printed reply.
+fn outcome_of(line: &str, reply: &str) -> (Outcome, Vec<u8>) {
     let mut words = reply.split(' ');
     let word = words.next().expect("a reply");
     let numbers: Vec<u32> = words.map(|number| number.parse().expect(reply)).collect();
     let count = numbers.len();
     let outcome = match (word, &numbers[..]) {
         ("ok", []) => Ok(Reply::Ok),
+        ("answer", numbers) if line.starts_with('G') => Ok(Reply::Answers(answers_of(numbers))),
         ("answer", &[code, value]) => Ok(Reply::Answer { code, value }),
         ("wait", &[count, ref owners @ ..]) => {
             Ok(Reply::Wait { owners: owners.iter().fold(0, |set, owner| set | 1 << owner), count })
@@ -36,7 +44,7 @@ fn outcome_of(reply: &str) -> (Outcome, Vec<u8>) {
 fn history_of(transcript: &str) -> History {
     let mut history = History::new(&[]);
     for (line, reply) in common::transcript_lines(transcript) {
-        let (outcome, list) = outcome_of(reply);
+        let (outcome, list) = outcome_of(line, reply);
         history.record(&call_of(line), outcome, &list);
     }
     history
@@ -202,6 +210,79 @@ fn waits_refusals_and_finishing_change_nothing() {
          F 0          refused 7",
     );
     assert_eq!(live(&history), [0]);
+    assert_eq!(history.serve_committed().unwrap(), Objects::new(&[1]));
+}
+
+#[test]
+fn batch_is_its_operations_singly_in_order() {
+    let singly = history_of(
+        "S 1 3            ok
+         B 0              ok
+         B 1              ok
+         I 1 0 1 6 0      answer 1 0
+         I 0 0 1 7 0      answer 1 0
+         I 0 1 7 5 50     answer 1 0
+         I 0 1 9 5 0      answer 1 50
+         I 1 1 7 6 60     answer 1 0
+         I 1 1 9 6 0      answer 1 60
+         F 0              finished
+         F 1              committed 1 0",
+    );
+    let batches = history_of(
+        "S 1 3                                        ok
+         B 0                                          ok
+         B 1                                          ok
+         G 1 0 1 6 0                                  answer 1 0
+         G 0 0 1 7 0 1 7 16777221 50 1 9 33554437 0   answer 1 0 1 0 1 50
+         G 1 1 7 6 60 1 9 6 0                         answer 1 0 1 60
+         F 0                                          finished
+         F 1                                          committed 1 0",
+    );
+    let served = batches.serve_committed().unwrap();
+    assert_eq!(served, singly.serve_committed().unwrap());
+    assert_eq!(served.rows(0), [6, 0, 7, 0]);
+    assert_eq!(served.rows(1), [5, 50, 6, 60]);
+}
+
+#[test]
+fn live_batch_is_dropped_whole_and_its_altered_answer_told() {
+    let history = history_of(
+        "S 1                    ok
+         B 0                    ok
+         B 1                    ok
+         G 0 0 1 7 0 0 1 8 0    answer 1 0 1 0
+         G 1 0 1 9 0 0 2 0 0    answer 1 0 1 9
+         G 1 0 3 0 0            answer 1 8",
+    );
+    assert_eq!(dropping(&history, &[]), Ok(()));
+    assert_eq!(dropping(&history, &[1]), Ok(()));
+    let altered = dropping(&history, &[0]).unwrap_err();
+    assert_eq!(altered.to_string(), "I 1 0 3 0 0 was answered 1 8, but gets 0 0");
+}
+
+#[test]
+fn answer_within_a_batch_that_serial_service_belies_is_told() {
+    let history = history_of(
+        "S 2                           ok
+         B 0                           ok
+         G 0 0 4 4 0 0 5 4 0 0 6 4 0   answer 1 0 1 0 1 0
+         F 0                           committed 0",
+    );
+    let altered = history.serve_committed().unwrap_err();
+    assert_eq!(altered.to_string(), "I 0 0 6 4 0 was answered 1 0, but gets 0 0");
+}
+
+#[test]
+fn batches_empty_waiting_or_refused_change_nothing() {
+    let history = history_of(
+        "S 1                   ok
+         B 0                   ok
+         G 0                   answer
+         G 0 0 1 7 0 0 2 0 0   wait 2 1 3
+         G 0 0 1 7 0 0 2 0 0   refused 7
+         F 0                   committed 0",
+    );
+    assert!(history.live().is_empty());
     assert_eq!(history.serve_committed().unwrap(), Objects::new(&[1]));
 }
 

@@ -105,8 +105,9 @@ fn numbers_are_those_of_the_paper() {
         Operation,
         LogFull,
         RowsFull,
+        Operations,
     ];
-    assert!(refusals.into_iter().map(|refusal| refusal.number()).eq(1..=11));
+    assert!(refusals.into_iter().map(|refusal| refusal.number()).eq(1..=12));
 }
 
 #[test]
@@ -218,6 +219,140 @@ fn operate_tries_1_4_5_7_8_9_10_11() {
             }
         }
     }
+}
+
+/// A scheduler whose objects 0 to 2 have space for so many rows more, and whose log for so many entries at most; all by
+/// transaction 0.
+fn scheduler_with_space(entries: usize, rows: usize) -> Scheduler {
+    let mut scheduler = scheduler();
+    for object in 0..3 {
+        let (_, adding) = operations(object);
+        (rows..64).for_each(|key| scheduler.follow(&format!("I 0 {object} {adding} {key} 0  answer 1 0")));
+    }
+    for _ in scheduler.store[0] as usize..256 - entries {
+        scheduler.follow("I 0 1 6 99 0  answer 0 0");
+    }
+    scheduler
+}
+
+/// Batches of two operations out of these: all on one object, one of them perhaps with an 8 or a 9 of its own.
+fn pairs_of_operations() -> Vec<[[u32; 4]; 2]> {
+    let mut pairs = Vec::new();
+    for object in 0..3 {
+        let (own, adding) = operations(object);
+        let add = [object, adding, 5, 0];
+        let look = [object, own.start() + 2, 5, 0];
+        let bad_object = [4, adding, 5, 0];
+        let bad_operation = [object, 12, 5, 0];
+        let each = [add, look, bad_object, bad_operation];
+        pairs.extend(each.iter().flat_map(|&first| each.map(|second| [first, second])));
+    }
+    pairs
+}
+
+/// The number of the first operation that has an 8 or a 9 of its own.
+fn first_own(pair: &[[u32; 4]]) -> Option<u32> {
+    pair.iter().find_map(|&[object, operation, ..]| first_of(&[(8, object > 3), (9, operation == 12)]))
+}
+
+#[test]
+fn batch_tries_1_4_5_12_7_8_9_10_11() {
+    for (entries, rows) in [(2, 2), (2, 1), (1, 2), (1, 1)] {
+        let scheduler = scheduler_with_space(entries, rows);
+        for spoilt in SPOILT {
+            let store = spoilt.store(&scheduler.store);
+            for transaction in TRANSACTIONS {
+                for pair in pairs_of_operations() {
+                    let adds_two = pair[0] == pair[1] && [1, 4, 7].contains(&pair[0][1]);
+                    let own = first_own(&pair);
+                    for words_more in [0, 1, 2, 3, 57, 60, 64, 1000] {
+                        let expected = first_of(&[
+                            (1, !spoilt.has_length()),
+                            (4, !spoilt.is_sound()),
+                            (5, transaction > 63),
+                            (12, words_more != 0),
+                            (7, transaction != ACTIVE),
+                            (own.unwrap_or(8), own.is_some()),
+                            (10, entries < 2),
+                            (11, rows < 2 && adds_two),
+                        ]);
+                        let mut operations = pair.concat();
+                        operations.resize(8 + words_more, 3);
+                        let call = Call::Batch { transaction, operations };
+                        assert_refusal(&call, &store, 0, expected, &format!("{spoilt:?}, {entries} entries"));
+                    }
+                }
+            }
+        }
+    }
+}
+
+#[test]
+fn empty_batch_tries_1_4_5_7() {
+    for full in [false, true] {
+        let scheduler = scheduler_filled(full, full);
+        for spoilt in SPOILT {
+            let store = spoilt.store(&scheduler.store);
+            for transaction in TRANSACTIONS {
+                let expected = first_of(&[
+                    (1, !spoilt.has_length()),
+                    (4, !spoilt.is_sound()),
+                    (5, transaction > 63),
+                    (7, transaction != ACTIVE),
+                ]);
+                let call = Call::Batch { transaction, operations: Vec::new() };
+                assert_refusal(&call, &store, 0, expected, &format!("{spoilt:?}, full: {full}"));
+            }
+        }
+    }
+}
+
+/// Every operation has an 8 or a 9 of its own, is answered or would wait; the first 8 or 9 alone counts.
+#[test]
+fn batch_is_refused_for_the_first_operation_with_an_8_or_9_of_its_own() {
+    let mut scheduler = scheduler();
+    scheduler.follow("B 2  ok");
+    let operations =
+        [("0 1 7 0", None), ("3 2 0 0", None), ("4 1 7 0", Some(8)), ("0 4 7 0", Some(9)), ("16 0 0 0", Some(8))];
+    for (first, own_first) in operations {
+        for (second, own_second) in operations {
+            for (third, own_third) in operations {
+                let said = scheduler.say(&format!("G 2 {first} {second} {third}"));
+                match own_first.or(own_second).or(own_third) {
+                    Some(number) => assert_eq!(said, format!("refused {number}"), "{first}, {second}, {third}"),
+                    None => assert!(!said.starts_with("refused"), "{first}, {second}, {third}: {said}"),
+                }
+            }
+        }
+    }
+}
+
+/// One of them would wait, another has a reason of its own, in either order.
+#[test]
+fn wait_of_a_batch_is_decided_after_all_refusals() {
+    let mut scheduler = scheduler();
+    scheduler.follow("B 2  ok\n G 2 3 2 0 0  wait 2 0 1");
+    scheduler.follow(
+        "G 2 3 2 0 0 4 1 0 0   refused 8
+         G 2 4 1 0 0 3 2 0 0   refused 8
+         G 2 3 2 0 0 0 4 0 0   refused 9
+         G 2 0 4 0 0 3 2 0 0   refused 9",
+    );
+    scheduler_with_space(3, 1).follow(
+        "B 2                              ok
+         G 2 3 2 0 0                      wait 2 0 1
+         G 2 3 2 0 0 1 4 70 0             wait 2 0 1
+         G 2 3 2 0 0 1 4 70 0 1 4 71 0    refused 11
+         G 2 1 4 70 0 1 4 71 0 3 2 0 0    refused 11
+         G 2 1 4 70 0 3 2 0 0 1 4 71 0    refused 11",
+    );
+    scheduler_with_space(1, 1).follow(
+        "B 2                              ok
+         G 2 3 2 0 0                      wait 2 0 1
+         G 2 3 2 0 0 1 6 70 0             refused 10
+         G 2 3 2 0 0 1 4 70 0 1 4 71 0    refused 10
+         G 2 1 4 70 0 1 4 71 0 0 12 0 0   refused 9",
+    );
 }
 
 #[test]
@@ -332,10 +467,14 @@ fn script_reaches_3_and_5_to_9() {
          B 0              ok
          B 64             refused 5
          I 64 16 0 0 0    refused 5
+         G 64 16 0 0 0    refused 5
+         G 64             refused 5
          F 64             refused 5
          C 4294967295     refused 5
          B 0              refused 6
          I 1 16 0 0 0     refused 7
+         G 1 16 0 0 0     refused 7
+         G 1              refused 7
          F 1              refused 7
          C 1              refused 7
          I 0 16 0 0 0     refused 8
@@ -344,6 +483,8 @@ fn script_reaches_3_and_5_to_9() {
          I 0 1 3 0 0      refused 9
          I 0 2 12 0 0     refused 9
          I 0 0 0 0 0      refused 9
+         G 0 0 0 0 0      refused 9
+         G 0 3 1 0 0      refused 8
          S 1 2 3 255      refused 3
          I 0 0 1 7 0      answer 1 0",
     );
@@ -361,6 +502,8 @@ fn script_reaches_10_and_11() {
          {tops}
          I 0 0 3 0 0  refused 10
          I 0 0 1 7 0  refused 10
+         G 0 0 1 7 0  refused 10
+         G 0          answer
          I 0 0 4 7 0  refused 9",
     ));
 }

@@ -2,7 +2,7 @@
 
 mod common;
 
-use common::{entry_word, Scheduler};
+use common::{assert_same_words, entry_word, Scheduler};
 use reference::history::{Answer, Objects};
 use reference::rules::{commutes, recoverable};
 use reference::soundness::sound;
@@ -134,9 +134,12 @@ fn calls_wait_and_depend_as_listed() {
         let mut scheduler = Scheduler::of(&[kind]);
         scheduler.follow("B 0  ok\n B 1  ok");
         scheduler.say(&format!("I 0 0 {} {} 0", logged.0, logged.1));
+        let mut by_batch = Scheduler { store: scheduler.store.clone(), list: scheduler.list.clone() };
         let reply = scheduler.say(&format!("I 1 0 {} {} 0", requested.0, requested.1 + mark));
         let as_listed = if recoverable { reply.starts_with("answer ") } else { reply == "wait 1 0" };
         assert!(as_listed, "{requested:?} against {logged:?}: {reply}");
+        assert_eq!(by_batch.say(&format!("G 1 0 {} {} 0", requested.0, requested.1 + mark)), reply);
+        assert_same_words(&by_batch.store, &scheduler.store);
         let expected = if recoverable && !commuting { "finished" } else { "committed 1" };
         assert_eq!(scheduler.say("F 1"), expected, "{requested:?} after {logged:?}");
     }

@@ -9,7 +9,7 @@ use std::rc::Rc;
 use std::slice::Iter;
 
 use common::draws::Draws;
-use common::{assert_printed, call_of, printed, sixteen};
+use common::{assert_printed, call_of, printed, sixteen, with_numbers};
 use reference::call::Call;
 use reference::script::{parse, run};
 
@@ -72,6 +72,27 @@ const UNREAD: &[&[u8]] = &[
     b"I 1 0 1  7 0",
     b"I 1 0 1 7 0 ",
     b"I 1 0 1 4294967296 0",
+    b"g 1",
+    b"G",
+    b"G ",
+    b"G  1",
+    b"G 1 ",
+    b"G a",
+    b"G 1 0",
+    b"G 1 0 3",
+    b"G 1 0 3 0",
+    b"G 1 0 3 0 ",
+    b"G 1 0 3 0 0 ",
+    b"G 1  0 3 0 0",
+    b"G 1 0 3  0 0",
+    b"G 1 0 3 0 a",
+    b"G 1 0 3 0 -1",
+    b"G 1 0 3 0 4294967296",
+    b"G 1 0 3 0 00000000000",
+    b"G 4294967296 0 3 0 0",
+    b"G 1 0 3 0 0 0",
+    b"G 1 0 3 0 0 0 3",
+    b"G 1 0 3 0 0 0 3 0",
     b"S ",
     b"S  1",
     b"S 1 ",
@@ -101,7 +122,7 @@ fn every_byte_instead_of_a_space_a_letter_or_a_digit() {
     for byte in (0..=u8::MAX).filter(|&byte| byte != b'\n') {
         assert_eq!(parse(&[b'B', byte, b'1']).is_some(), byte == b' ', "byte {byte} as a space");
         assert_eq!(parse(&[b'B', b' ', byte]).is_some(), byte.is_ascii_digit(), "byte {byte} as a digit");
-        assert_eq!(parse(&[byte, b' ', b'1']).is_some(), b"SBFC".contains(&byte), "byte {byte} as a letter");
+        assert_eq!(parse(&[byte, b' ', b'1']).is_some(), b"SBGFC".contains(&byte), "byte {byte} as a letter");
         assert_eq!(parse(&[b'B', b' ', b'1', byte]).is_some(), byte.is_ascii_digit(), "byte {byte} at the end");
         assert_eq!(parse(&[byte, b'B', b' ', b'1']), None, "byte {byte} at the beginning");
     }
@@ -119,6 +140,13 @@ fn lines_are_read_as_calls() {
     assert_eq!(parse(b"I 1 2 3 4 5"), Some(operate(1, 4)));
     assert_eq!(parse(b"I 4294967295 2 3 4294967295 5"), Some(operate(u32::MAX, u32::MAX)));
     assert_eq!(parse(b"I 0000000001 02 003 0000000004 5"), Some(operate(1, 4)));
+    let batch = |transaction, operations: &[u32]| Call::Batch { transaction, operations: operations.to_vec() };
+    assert_eq!(parse(b"G 1"), Some(batch(1, &[])));
+    assert_eq!(parse(b"G 1 2 3 4 5"), Some(batch(1, &[2, 3, 4, 5])));
+    assert_eq!(
+        parse(b"G 4294967295 02 3 4294967295 5 6 7 8 9"),
+        Some(batch(u32::MAX, &[2, 3, u32::MAX, 5, 6, 7, 8, 9]))
+    );
     assert_eq!(parse(b"F 63"), Some(Call::Finish { transaction: 63 }));
     assert_eq!(parse(b"C 1000000000"), Some(Call::Cancel { transaction: 1_000_000_000 }));
 }
@@ -210,6 +238,59 @@ fn wait_prints_the_number_of_owners_and_then_the_owners_ascending() {
 }
 
 #[test]
+fn batch_prints_the_code_and_value_of_each_answer_on_one_line() {
+    assert_printed(
+        "S 1 2 3                                     ok
+         B 0                                         ok
+         B 1                                         ok
+         G 0                                         answer
+         G 0 0 1 4294967295 9 0 3 0 0 0 2 0 0        answer 1 0 1 4294967295 1 4294967295
+         G 1 1 4 4 0 2 10 0 0                        answer 1 0 1 0
+         G 0 2 9 16777221 7                          answer 0 0
+         G 0 1 6 4 0 1 6 5 0                         wait 1 1
+         G 1 0 1 5 0 1 6 4 0 0 2 0 0                 wait 1 0
+         G 0 1 6 4 0 0 12 0 0                        refused 9
+         F 1                                         committed 1
+         G 0 1 6 4 0 1 6 5 0                         answer 1 0 0 0
+         G 1                                         refused 7
+         G 64 1 6 4 0                                refused 5",
+    );
+}
+
+#[test]
+fn batch_has_at_most_16_operations_of_four_numbers() {
+    let pushes = |numbers: usize| with_numbers("G 1", [0, 1, 7, 0].iter().cycle().take(numbers));
+    for numbers in 0..200 {
+        let line = pushes(numbers);
+        let whole = numbers % 4 == 0 && numbers <= 64;
+        assert_eq!(parse(line.as_bytes()).is_some(), whole, "{numbers} numbers");
+        let reply = if whole { with_numbers("answer", [1, 0].repeat(numbers / 4)) } else { "unread".to_string() };
+        let top = if whole && numbers > 0 { "answer 1 7" } else { "answer 0 0" };
+        assert_eq!(printed_between(line.as_bytes()), format!("ok\nok\n{reply}\nrefused 6\n{top}\n"));
+    }
+}
+
+#[test]
+fn batch_with_a_field_that_is_no_number_is_unread_wherever_it_stands() {
+    for place in 0..65 {
+        for field in ["", "x", "-1", "4294967296", "00000000000"] {
+            let mut fields = vec!["1"; 65];
+            fields[place] = field;
+            assert_eq!(parse(with_numbers("G", fields).as_bytes()), None, "{field:?} at {place}");
+        }
+    }
+}
+
+#[test]
+fn batch_waits_for_63_others() {
+    let inserts: String = (0..64).map(|t| format!("B {t}\nI {t} 0 4 {} 0\n", t % 16)).collect();
+    let batch = (0..16).fold("G 5".to_string(), |line, key| format!("{line} 0 6 {key} 0"));
+    let output = printed(format!("S 2\n{inserts}{batch}").as_bytes());
+    let expected = with_numbers("wait 63", (0..64).filter(|&other| other != 5));
+    assert_eq!(output.lines().last(), Some(&expected[..]));
+}
+
+#[test]
 fn wait_prints_all_63_others() {
     let inserts: String = (0..64).rev().map(|t| format!("B {t}\nI {t} 0 4 4 0\n")).collect();
     for transaction in [0, 1, 31, 32, 62, 63] {
@@ -232,6 +313,7 @@ fn long_lines_are_one_line_each() {
         [megabytes(b'\r'), b"B 1".to_vec()].concat(),
         b"B 1 ".repeat(1 << 19),
         b"S 1".to_vec().into_iter().chain(b" 1".repeat(1 << 19)).collect(),
+        b"G 1".to_vec().into_iter().chain(b" 0 1 7 0".repeat(1 << 18)).collect(),
     ] {
         assert_eq!(printed_between(&long), "ok\nok\nunread\nrefused 6\nanswer 0 0\n");
         assert_eq!(printed(&long[..]), "unread\n");
@@ -250,11 +332,15 @@ fn long_lines_are_not_cut_into_calls() {
 
 #[test]
 fn longest_call_is_read_and_a_byte_more_is_not() {
-    let longest = [b"S".to_vec(), b" 0000000001".repeat(16)].concat();
-    for (end, reply) in [(&b""[..], "ok\n"), (b"1", "unread\n"), (b" ", "unread\n"), (b"\r", "unread\n")] {
-        let line = [&longest, end].concat();
-        for length in [1, 100, line.len()] {
-            assert_eq!(printed(Pieces::new(&line, &[length])), reply, "pieces of {length}, then {end:?}");
+    let batch = [b"G".to_vec(), b" 0000000001".repeat(65)].concat();
+    let set_up = [b"S".to_vec(), b" 0000000001".repeat(16)].concat();
+    assert_eq!(batch.len(), 716);
+    for (longest, taken) in [(batch, "refused 7\n"), (set_up, "ok\n")] {
+        for (end, reply) in [(&b""[..], taken), (b"1", "unread\n"), (b" ", "unread\n"), (b"\r", "unread\n")] {
+            let line = [&longest, end].concat();
+            for length in [1, 100, line.len()] {
+                assert_eq!(printed(Pieces::new(&line, &[length])), reply, "pieces of {length}, then {end:?}");
+            }
         }
     }
 }
@@ -298,6 +384,10 @@ fn random_script(seed: u64, lines: usize) -> Vec<u8> {
             1 => format!("F {t}"),
             2 => format!("C {t}"),
             3 if draws.percent(20) => "S 1 2 3".to_string(),
+            3 => {
+                let operations = (0..draws.below(20)).flat_map(|_| [object, operation, draws.below(5), 0]);
+                with_numbers(&format!("G {t}"), operations.collect::<Vec<_>>())
+            }
             _ => format!("I {t} {object} {operation} {} {}", draws.below(5), draws.below(9)),
         };
         let mut line = line.into_bytes();

@@ -118,6 +118,8 @@ fn assert_refused_as_unsound(words: &mut [u32]) {
     for call in [
         Call::Begin { transaction: ABSENT },
         Call::Operate { transaction: 1, object: 0, operation: 1, key: 7, value: 0 },
+        Call::Batch { transaction: 1, operations: vec![] },
+        Call::Batch { transaction: 1, operations: vec![0, 1, 7, 0] },
         Call::Finish { transaction: 1 },
         Call::Cancel { transaction: 1 },
     ] {

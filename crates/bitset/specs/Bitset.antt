@@ -33,9 +33,13 @@ Holds s P = (h : ℕ) → In s h ↔ P h
 abbrev pub Represents : List ℕ → (ℕ → ℕ → Type 0) → Type 0
 Represents sets R = (a b : ℕ) → In (getD sets a 0) b ↔ R a b
 
+-- The members of either.
+abbrev pub union : ℕ → ℕ → ℕ
+union a b = bitOr a b
+
 -- The set with transaction h besides.
 abbrev pub including : ℕ → ℕ → ℕ
-including h s = bitOr (2 ^ h) s
+including h s = union (2 ^ h) s
 
 -- ---- One by one
 

@@ -1,18 +1,21 @@
 -- Replies as the C interface writes them.
-use Prim.Native.Nat.{ℕ, _*_}
+use Prim.Native.Nat.{ℕ, _+_, _*_}
 use mathlib.Core.Path.{_≡_}
 use mathlib.Core.Bool.{cond}
-use mathlib.Core.List.{List}
+use mathlib.Core.List.{List, map}
 use lib.Dec.{eqb}
-use lib.ListN.{take, drop}
+use lib.ListN.{length, take, drop}
+use Rattle.operations.specs.Operations.{Answer}
 use Rattle.store.specs.Layout.{base, rowsStart}
 use Rattle.store.specs.Decisions.{whetherSound}
 use Rattle.protocol.specs.Replies.{Served}
+use Rattle.protocol.specs.ReplyOf.{answersIn, filled}
 use Rattle.protocol.specs.Calls as calls
 use Rattle.codes.specs.Codes.{numbersOf}
 use Rattle.codes.specs.declared.Numbers.{Numbers}
 use Rattle.capi.specs.declared.Accepted.{Accepted}
 use Rattle.capi.specs.declared.Operated.{Operated}
+use Rattle.capi.specs.declared.Batched.{Batched}
 use Rattle.capi.specs.declared.Ended.{Ended}
 use Rattle.capi.specs.declared.Part.{Part}
 
@@ -28,6 +31,17 @@ operated n =
       count = n .count;
       answer = n .answer;
       value = n .value;
+    }
+
+-- Of a batch: `count` is how many answers, or how many owners of a wait; places past the answers are 0 0.
+abbrev pub batched : List Answer → Numbers → Batched
+batched answers n =
+    record {
+      refusal = n .refusal;
+      code = n .code;
+      owners = n .owners;
+      count = n .count + length answers;
+      answers = map (λ a. record { code = a .code; value = a .value }) (filled answers);
     }
 
 abbrev pub ended : Numbers → Ended
@@ -63,3 +77,7 @@ module _ {A : Type 0} where
   -- What a call leaves, its reply's numbers written so.
   abbrev pub written : (Numbers → A) → Served → Exported A
   written write s = exported (s .book) (s .outcome .list) (write (numbersOf (s .outcome .reply)))
+
+-- What a batch leaves, with its answers.
+abbrev pub writtenAnswers : Served → Exported Batched
+writtenAnswers s = written (batched (answersIn (s .outcome .reply))) s

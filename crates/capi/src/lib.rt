@@ -1,11 +1,12 @@
 // The calls for programs in other languages, by C's rules of calling: a slice is a pointer and a length. None asks
 // anything of its arguments.
+use operations::Answer;
 ghost use mathlib.Core.Path.{_≡_};
 ghost use mathlib.Core.List.{[]};
 ghost use Rattle.store.specs.Layout.{base};
 ghost use Rattle.store.specs.Decisions.{whetherSound};
 ghost use Rattle.protocol.specs.Calls as calls;
-ghost use Rattle.capi.specs.Exported.{accepted, operated, ended, exported, written, Handed};
+ghost use Rattle.capi.specs.Exported.{accepted, operated, ended, exported, written, writtenAnswers, Handed};
 
 // What set up and begin reply: the reason for saying no, or 0.
 #[repr(C)]
@@ -22,6 +23,17 @@ pub struct Operated {
     pub count: u32,
     pub answer: u32,
     pub value: u32,
+}
+
+// What batch replies: 0 wait, with the set of owners and their number; 1 answered, with the answers, in the order of
+// the operations, and their number. Answers that are not used are 0 0.
+#[repr(C)]
+pub struct Batched {
+    pub refusal: u32,
+    pub code: u32,
+    pub owners: u64,
+    pub count: u32,
+    pub answers: [Answer; protocol::BATCH],
 }
 
 // What finish and cancel reply: 2 finished, 3 committed, 4 circle, 5 cancelled, and how many the list names.
@@ -79,6 +91,28 @@ pub extern "C" fn lending_desk_operate(
         count: n.count,
         answer: n.answer,
         value: n.value,
+    }
+}
+
+#[no_mangle]
+pub extern "C" fn lending_desk_batch(
+    book: &mut [u32],
+    transaction: u32,
+    operations: &[u32],
+) -> Batched
+    ensures { λ r. ⌜ exported (now (book .exit)) [] r
+        ≡ writtenAnswers (calls.batch base whetherSound (now (book .entry)) transaction (now (operations .entry))) ⌝ }
+{
+    let batched = scheduler::batch(book, transaction, operations);
+    let reply = batched.reply;
+    let answers = batched.answers;
+    let n = codes::numbers_of(reply);
+    Batched {
+        refusal: n.refusal,
+        code: n.code,
+        owners: n.owners,
+        count: n.count + batched.count as u32,
+        answers,
     }
 }
 

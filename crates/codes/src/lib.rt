@@ -66,6 +66,8 @@ pub fn numbers_of(reply: Reply) -> Numbers
             n.answer = code;
             n.value = value;
         }
+        // They stand beside the numbers.
+        Reply::Answers => n.code = ANSWERED,
         Reply::Finished => n.code = FINISHED,
         Reply::Committed(count) => n = listed(COMMITTED, count),
         Reply::Circle(count) => n = listed(CIRCLE, count),

@@ -1,4 +1,4 @@
--- That the history says something: of document 01's whole case, and of one list more, events and history, written out.
+-- That the history says something: of document 01's whole case, and of two lists more, events and history, written out.
 -- The crate `traces` proves that the events are those of the desk.
 use Prim.Native.Nat.{ℕ}
 use mathlib.Core.Path.{_≡_, refl, ap}
@@ -12,7 +12,7 @@ use Rattle.operations.specs.Log.{one}
 use Rattle.store.specs.Store.{Logged}
 use Rattle.protocol.specs.Replies.{Reply, ok, answered, wait, finished, committed, circle, cancelled, counted, refused}
 use Rattle.protocol.specs.Replies.{outcome}
-use Rattle.protocol.specs.Call.{Call, setUp, begin, operate, finish, cancel, contents}
+use Rattle.protocol.specs.Call.{Call, setUp, begin, operate, batch, finish, cancel, contents}
 use Rattle.protocol.specs.Laws.Protocol.{clash}
 use Rattle.history.specs.History.{Event, SetUpRefused, Committed, History, history, serial, emptyObjects, answers}
 use Rattle.history.specs.History.{committedContents, written, afterDropping, Unaltered}
@@ -48,13 +48,13 @@ abbrev pub wholeCase : List Event
 wholeCase =
     says (begin 0) ok
     ∷ says (begin 1) ok
-    ∷ says (operate 0 0 1 7 0) (answered (answering 1 0))
-    ∷ says (operate 1 0 1 9 0) (answered (answering 1 0))
+    ∷ says (operate 0 0 1 7 0) (answered (answering 1 0 ∷ []))
+    ∷ says (operate 1 0 1 9 0) (answered (answering 1 0 ∷ []))
     ∷ says (operate 1 0 3 0 0) (wait 1 1)
     ∷ lists (finish 1 lent) finished lent
     ∷ lists (finish 0 lent) (committed 2) (0 ∷ 1 ∷ replicate 62 0)
     ∷ says (begin 2) ok
-    ∷ says (operate 2 0 2 0 0) (answered (answering 1 9))
+    ∷ says (operate 2 0 2 0 0) (answered (answering 1 9 ∷ []))
     ∷ lists (cancel 2 lent) (cancelled 0) lent
     ∷ []
 
@@ -91,32 +91,32 @@ twiceUsed =
     says (setUp (1 ∷ 4 ∷ [])) (refused 3)
     ∷ says (begin 0) ok
     ∷ says (begin 1) ok
-    ∷ says (operate 0 0 1 5 0) (answered (answering 1 0))
-    ∷ says (operate 1 0 1 6 0) (answered (answering 1 0))
-    ∷ says (operate 1 1 1 7 0) (answered (answering 1 0))
-    ∷ says (operate 0 1 1 8 0) (answered (answering 1 0))
+    ∷ says (operate 0 0 1 5 0) (answered (answering 1 0 ∷ []))
+    ∷ says (operate 1 0 1 6 0) (answered (answering 1 0 ∷ []))
+    ∷ says (operate 1 1 1 7 0) (answered (answering 1 0 ∷ []))
+    ∷ says (operate 0 1 1 8 0) (answered (answering 1 0 ∷ []))
     ∷ says (operate 0 0 3 0 0) (wait 2 1)
-    ∷ says (operate 1 3 7 16_777_221 3) (answered (answering 1 0))
-    ∷ says (operate 1 3 9 5 0) (answered (answering 1 3))
+    ∷ says (operate 1 3 7 16_777_221 3) (answered (answering 1 0 ∷ []))
+    ∷ says (operate 1 3 9 5 0) (answered (answering 1 3 ∷ []))
     ∷ lists (finish 0 long) finished long
     ∷ lists (finish 1 long) (circle 1) (0 ∷ replicate 69 255)
     ∷ says (begin 0) ok
     ∷ says (begin 1) ok
-    ∷ says (operate 1 3 9 5 0) (answered (answering 0 0))
-    ∷ says (operate 1 0 3 0 0) (answered (answering 1 5))
-    ∷ says (operate 1 0 1 10 0) (answered (answering 1 0))
-    ∷ says (operate 0 0 1 11 0) (answered (answering 1 0))
-    ∷ says (operate 0 3 7 33_554_441 4) (answered (answering 1 0))
-    ∷ says (operate 0 3 10 0 0) (answered (answering 1 1))
-    ∷ says (operate 0 3 11 9 6) (answered (answering 1 0))
-    ∷ says (operate 0 2 6 3 0) (answered (answering 0 0))
+    ∷ says (operate 1 3 9 5 0) (answered (answering 0 0 ∷ []))
+    ∷ says (operate 1 0 3 0 0) (answered (answering 1 5 ∷ []))
+    ∷ says (operate 1 0 1 10 0) (answered (answering 1 0 ∷ []))
+    ∷ says (operate 0 0 1 11 0) (answered (answering 1 0 ∷ []))
+    ∷ says (operate 0 3 7 33_554_441 4) (answered (answering 1 0 ∷ []))
+    ∷ says (operate 0 3 10 0 0) (answered (answering 1 1 ∷ []))
+    ∷ says (operate 0 3 11 9 6) (answered (answering 1 0 ∷ []))
+    ∷ says (operate 0 2 6 3 0) (answered (answering 0 0 ∷ []))
     ∷ lists (finish 0 lent) finished lent
     ∷ lists (finish 1 lent) (committed 2) (1 ∷ 0 ∷ replicate 62 0)
     ∷ says (contents 4) (refused 8)
     ∷ says (begin 2) ok
-    ∷ says (operate 2 0 2 0 0) (answered (answering 1 11))
+    ∷ says (operate 2 0 2 0 0) (answered (answering 1 11 ∷ []))
     ∷ says (begin 3) ok
-    ∷ says (operate 3 0 1 16_777_228 0) (answered (answering 1 0))
+    ∷ says (operate 3 0 1 16_777_228 0) (answered (answering 1 0 ∷ []))
     ∷ record { call = contents 3; outcome = outcome (counted 1) [] (9 ∷ 6 ∷ []) }
     ∷ lists (cancel 3 []) (refused 2) []
     ∷ lists (finish 3 lent) finished lent
@@ -126,7 +126,7 @@ twiceUsed =
     ∷ says (begin 0) ok
     ∷ lists (cancel 0 lent) (cancelled 0) lent
     ∷ says (begin 2) ok
-    ∷ says (operate 2 0 2 0 0) (answered (answering 1 16_777_228))
+    ∷ says (operate 2 0 2 0 0) (answered (answering 1 16_777_228 ∷ []))
     ∷ []
 
 abbrev pub twiceHistory : History
@@ -163,6 +163,63 @@ pub twice-used : (history reduceKey twiceUsed ≡ twiceHistory)
     × (written (committedContents twiceHistory 3) ≡ outcome (counted 1) [] (9 ∷ 6 ∷ []))
 unfolding reduceKey byOrder
 twice-used = (refl, refl, refl, refl, refl)
+
+-- ---- Batches (02, No. 2)
+
+-- One is answered, with operations on two objects; one waits for its second operation, and its first isn't shown; one
+-- waits for the owners of both of its operations; an empty one is answered, and shows nothing; one is refused for its
+-- first operation, of another kind, and not for its second, on an object of kind 0, and one the other way round; two
+-- end in a part of an operation, one of them of an absent transaction; empty ones of this and of 64 are refused; and in
+-- the last, operations see those before them.
+
+abbrev pub batchedKinds : List ℕ
+batchedKinds = 1 ∷ 3 ∷ 1 ∷ replicate 13 0
+
+abbrev pub batched : List Event
+batched =
+    says (begin 0) ok
+    ∷ says (begin 1) ok
+    ∷ says (begin 2) ok
+    ∷ says (batch 0 (0 ∷ 1 ∷ 7 ∷ 0 ∷ 1 ∷ 7 ∷ 16_777_221 ∷ 3 ∷ [])) (answered (answering 1 0 ∷ answering 1 0 ∷ []))
+    ∷ says (batch 2 (2 ∷ 1 ∷ 8 ∷ 0 ∷ [])) (answered (answering 1 0 ∷ []))
+    ∷ says (batch 1 (1 ∷ 7 ∷ 6 ∷ 4 ∷ 0 ∷ 3 ∷ 0 ∷ 0 ∷ [])) (wait 1 1)
+    ∷ says (batch 1 (0 ∷ 3 ∷ 0 ∷ 0 ∷ 2 ∷ 3 ∷ 0 ∷ 0 ∷ [])) (wait 5 2)
+    ∷ says (batch 1 []) (answered [])
+    ∷ says (batch 1 (0 ∷ 4 ∷ 5 ∷ 0 ∷ 3 ∷ 1 ∷ 5 ∷ 0 ∷ [])) (refused 9)
+    ∷ says (batch 1 (3 ∷ 1 ∷ 5 ∷ 0 ∷ 0 ∷ 4 ∷ 5 ∷ 0 ∷ [])) (refused 8)
+    ∷ says (batch 1 (1 ∷ 7 ∷ 6 ∷ 4 ∷ 0 ∷ 3 ∷ [])) (refused 12)
+    ∷ says (batch 3 (1 ∷ 7 ∷ 6 ∷ 4 ∷ 0 ∷ 3 ∷ [])) (refused 12)
+    ∷ says (batch 3 []) (refused 7)
+    ∷ says (batch 64 []) (refused 5)
+    ∷ lists (finish 0 lent) (committed 1) (0 ∷ replicate 63 0)
+    ∷ says (batch 1 (0 ∷ 2 ∷ 0 ∷ 0 ∷ 0 ∷ 3 ∷ 0 ∷ 0 ∷ 1 ∷ 7 ∷ 6 ∷ 4 ∷ 1 ∷ 9 ∷ 6 ∷ 0 ∷ []))
+    (answered (answering 1 7 ∷ answering 0 0 ∷ answering 1 0 ∷ answering 1 4 ∷ []))
+    ∷ []
+
+abbrev pub batchedHistory : History
+batchedHistory =
+    record {
+      committed =
+          group 0 (
+          logged 0 0 (onStack (push 7)) (answering 1 0) ∷ logged 0 1 (onTable (tableInsert 5 3)) (answering 1 0) ∷ []
+          )
+          ∷ [];
+      live = 1 ∷ 2 ∷ [];
+      answered =
+          logged 2 2 (onStack (push 8)) (answering 1 0)
+          ∷ logged 1 0 (onStack pop) (answering 1 7)
+          ∷ logged 1 0 (onStack top) (answering 0 0)
+          ∷ logged 1 1 (onTable (tableInsert 6 4)) (answering 1 0)
+          ∷ logged 1 1 (onTable (lookup 6)) (answering 1 4)
+          ∷ [];
+    }
+
+pub in-batches : (history reduceKey batched ≡ batchedHistory)
+    × Unaltered (serial (batchedHistory .committed))
+    × Unaltered (afterDropping (λ t. false) batchedHistory)
+    × (map (committedContents batchedHistory) (0 ∷ 1 ∷ 2 ∷ []) ≡ (row 7 0 ∷ []) ∷ (row 5 3 ∷ []) ∷ [] ∷ [])
+unfolding reduceKey byOrder
+in-batches = (refl, refl, refl, refl)
 
 -- ---- Serving can belie an answer
 

@@ -3,16 +3,18 @@
 use Prim.Native.Nat.{ℕ}
 use mathlib.Core.Path.{_≡_}
 use mathlib.Core.Bool.{Bool, cond}
+use mathlib.Core.Logic.{_⊎_}
 use mathlib.Core.List.{List, [], _∷_, _++_, map}
 use lib.Dec.{eqb}
 use lib.ListN.{length, take}
-use Rattle.operations.specs.Operations.{Row, Answer, stored, next, answer}
+use Rattle.operations.specs.Operations.{Row, Answer, next, answer}
 use Rattle.operations.specs.Log.{filter, one, others}
 use Rattle.store.specs.Store.{Logged, operationsOf}
-use Rattle.store.specs.Layout.{orPop, joined, rowWords}
+use Rattle.store.specs.Layout.{joined, rowWords}
 use Rattle.protocol.specs.Replies.{Reply, ok, answered, wait, finished, committed, circle, cancelled, counted, refused}
 use Rattle.protocol.specs.Replies.{Outcome, outcome, Served}
-use Rattle.protocol.specs.Call.{Call, setUp, begin, operate, finish, cancel, contents}
+use Rattle.protocol.specs.Calls.{LentOperation, lentOperation, operationsIn}
+use Rattle.protocol.specs.Call.{Call, setUp, begin, operate, batch, finish, cancel, contents, answeredOperations}
 
 -- ---- Lists of calls
 
@@ -61,24 +63,28 @@ abbrev pub begun : Call → History → History
 begun (setUp kinds) h = h
 begun (begin t) h = record { committed = h .committed; live = h .live ++ (t ∷ []); answered = h .answered }
 begun (operate t o number k v) h = h
+begun (batch t operations) h = h
 begun (finish t list) h = h
 begun (cancel t list) h = h
 begun (contents o) h = h
 
+abbrev pub putLast : List Logged → History → History
+putLast operations h =
+    record { committed = h .committed; live = h .live; answered = h .answered ++ operations }
+
 -- "A reply that answers an operation puts it last among the answered ones, with its handout, its key as reduced at the
--- call that asked for it, and its answer." Its number names an operation: otherwise the call was refused with 9.
-abbrev pub entered : (ℕ → ℕ) → Call → Answer → History → History
-entered reduce (setUp kinds) a h = h
-entered reduce (begin t) a h = h
-entered reduce (operate t o number k v) a h =
-    let l : Logged = record {
-      object = o;
-      entry = record { transaction = t; operation = orPop (stored reduce number k v); answer = a };
-    } in
-    record { committed = h .committed; live = h .live; answered = h .answered ++ (l ∷ []) }
-entered reduce (finish t list) a h = h
-entered reduce (cancel t list) a h = h
-entered reduce (contents o) a h = h
+-- call that asked for it, and its answer." Its number names an operation: otherwise the call was refused. "The
+-- serial history shows the batch's operations singly" (02, No. 2), in their order.
+abbrev pub entered : (ℕ → ℕ) → Call → List Answer → History → History
+entered reduce (setUp kinds) answers h = h
+entered reduce (begin t) answers h = h
+entered reduce (operate t o number k v) answers h =
+    putLast (answeredOperations reduce t (lentOperation o number k v ∷ []) answers) h
+entered reduce (batch t operations) answers h =
+    putLast (answeredOperations reduce t (operationsIn operations) answers) h
+entered reduce (finish t list) answers h = h
+entered reduce (cancel t list) answers h = h
+entered reduce (contents o) answers h = h
 
 -- A transaction that is live no more, with its operations struck out.
 abbrev pub struck : ℕ → History → History
@@ -110,6 +116,7 @@ abbrev pub aborted : Call → History → History
 aborted (setUp kinds) h = h
 aborted (begin t) h = h
 aborted (operate t o number k v) h = h
+aborted (batch t operations) h = h
 aborted (finish t list) h = struck t h
 aborted (cancel t list) h = struck t h
 aborted (contents o) h = h
@@ -118,7 +125,7 @@ module _ (reduce : ℕ → ℕ) where
   -- What each reply changes. "*Wait*, *finished*, contents and refusals change nothing."
   abbrev pub noted : Call → Reply → List ℕ → History → History
   noted call ok list h = begun call h
-  noted call (answered a) list h = entered reduce call a h
+  noted call (answered answers) list h = entered reduce call answers h
   noted call (wait owners count) list h = h
   noted call finished list h = h
   noted call (committed n) list h = committedInOrder (take n list) h
@@ -195,3 +202,24 @@ Unaltered ls = answers ls emptyObjects ≡ given ls
 abbrev pub ofEach : List ℕ → List Logged → List Logged
 ofEach [] ls = []
 ofEach (t ∷ ts) ls = operationsOf (one t) ls ++ ofEach ts ls
+
+-- ---- A batch, one by one
+
+-- The operations of a batch, each asked for by a call of its own.
+abbrev pub singly : ℕ → List LentOperation → List Call
+singly t = map (λ (q : LentOperation). operate t (q .object) (q .number) (q .key) (q .value))
+
+abbrev pub repliesOf : List Event → List Reply
+repliesOf = map (λ (e : Event). e .outcome .reply)
+
+abbrev pub Waits : Reply → Type 0
+Waits r = (set count : ℕ) × (r ≡ wait set count)
+
+-- It refuses for a reason of an operation: no kind, another kind, or a limit.
+abbrev pub OperationRefused : Reply → Type 0
+OperationRefused r = (r ≡ refused 8) ⊎ (r ≡ refused 9) ⊎ (r ≡ refused 10) ⊎ (r ≡ refused 11)
+
+-- The replies come to one that is such: all before it answer an operation each.
+abbrev pub ComesTo : (Reply → Type 0) → List Reply → Type 0
+ComesTo Such [] = ⊥
+ComesTo Such (r ∷ replies) = Such r ⊎ (((a : Answer) × (r ≡ answered (a ∷ []))) × ComesTo Such replies)

@@ -3,22 +3,28 @@
 use Prim.Native.Nat.{ℕ}
 use mathlib.Core.Path.{_≡_}
 use mathlib.Core.Bool.{Bool}
-use mathlib.Core.Logic.{_↔_}
+use mathlib.Core.Logic.{_↔_, _⊎_}
 use mathlib.Core.Option.{some}
-use mathlib.Core.List.{List, [], _++_}
+use mathlib.Core.List.{List, [], _∷_, _++_, map}
 use lib.ListN.{take}
-use Rattle.operations.specs.Operations.{All, kindOf, reduceKey}
+use Rattle.operations.specs.Operations.{Answer, All, kindOf, reduceKey}
 use Rattle.operations.specs.Log.{one, others}
-use Rattle.store.specs.Store.{Logged, Live}
+use Rattle.store.specs.Store.{Logged, Live, Active}
 use Rattle.store.specs.Layout.{word, readKind, decode, base}
-use Rattle.protocol.specs.Replies.{ok, cancelled, refused, outcome, Served}
-use Rattle.protocol.specs.Call.{Call, setUp, cancel, contents, desk}
+use Rattle.store.specs.Soundness.{Sound}
+use Rattle.protocol.specs.Replies.{Reply, ok, answered, wait, cancelled, refused, outcome, Served}
+use Rattle.protocol.specs.Calls.{operationsIn}
+use Rattle.protocol.specs.Call.{Call, setUp, batch, cancel, contents, desk}
 use Rattle.protocol.specs.Terms.{Among}
 use Rattle.history.specs.History.{Event, trace, bookAfter, SetUpRefused, History, history, serial, reached}
-use Rattle.history.specs.History.{committedContents, written, afterDropping, Unaltered, ofEach}
+use Rattle.history.specs.History.{noted, notedAll, committedContents, written, afterDropping, Unaltered}
+use Rattle.history.specs.History.{ofEach, singly, repliesOf, Waits, OperationRefused, ComesTo}
 use Rattle.history.specs.Laws.Steps.{InStep, set-up-follows, set-up-kind, trace-sound, history-follows}
 use Rattle.history.specs.Laws.Consequences.{all-fit, answered-live, all-answered, contents-read, contents-refused}
 use Rattle.history.specs.Laws.Consequences.{cancelled-read, cancelled-unlisted}
+use Rattle.history.specs.Laws.Singly as singles
+use Rattle.history.specs.Laws.Singly.{answered-singly, waits-singly, refused-singly, put-none, empty-exactly}
+use Rattle.history.specs.Laws.Singly.{empty-leaves}
 
 -- ---- The three parts of demand 3
 
@@ -114,3 +120,44 @@ module _ (w kinds : List ℕ) (accepted : desk (setUp kinds) w .outcome .reply �
           (contents-read kinds h book follows o kind, cancelled-read kinds h book follows t list n said o kind),
       cancelled-unlisted kinds h book follows t list n said,
     )
+
+-- ---- A batch, one by one
+
+-- Of any book. Where a batch is answered, its operations asked for one by one get the same answers and leave the same
+-- book.
+pub one-by-one : (w : List ℕ) (t : ℕ) (operations : List ℕ) (given : List Answer)
+    → desk (batch t operations) w .outcome .reply ≡ answered given
+    → let calls = singly t (operationsIn operations) in
+    (repliesOf (trace desk calls w) ≡ map (λ (a : Answer). answered (a ∷ [])) given)
+    × (bookAfter desk calls w ≡ desk (batch t operations) w .book)
+one-by-one = answered-singly
+
+-- The history shows them as if they had been asked for so.
+pub shown-singly : (w : List ℕ) (t : ℕ) (operations : List ℕ) (given : List Answer)
+    → desk (batch t operations) w .outcome .reply ≡ answered given → (h : History)
+    → noted reduceKey (batch t operations) (answered given) [] h
+    ≡ notedAll reduceKey (trace desk (singly t (operationsIn operations)) w) h
+shown-singly = singles.shown-singly
+
+-- Where it is told to wait, they come, answered so far, to one that is told to wait;
+pub one-by-one-waits : (w : List ℕ) (t : ℕ) (operations : List ℕ) (set count : ℕ)
+    → desk (batch t operations) w .outcome .reply ≡ wait set count
+    → ComesTo Waits (repliesOf (trace desk (singly t (operationsIn operations)) w))
+one-by-one-waits = waits-singly
+
+-- where it is refused for a reason of an operation, they come, answered so far, to one that is refused for such a
+-- reason or told to wait.
+pub one-by-one-refused : (w : List ℕ) (t : ℕ) (operations : List ℕ)
+    → OperationRefused (desk (batch t operations) w .outcome .reply)
+    → ComesTo (λ (r : Reply). Waits r ⊎ OperationRefused r)
+    (repliesOf (trace desk (singly t (operationsIn operations)) w))
+one-by-one-refused = refused-singly
+
+-- An empty batch is answered with no answers exactly where the book is sound and the transaction active, on a full log
+-- too; it then leaves the book as it is, and the history notes nothing.
+pub empty-batch : (w : List ℕ) (t : ℕ)
+    → let r = desk (batch t []) w in
+    ((r .outcome .reply ≡ answered []) ↔ (Sound base w × Active (decode base w) t))
+    × (r .outcome .reply ≡ answered [] → (r .book ≡ w)
+    × ((h : History) → noted reduceKey (batch t []) (r .outcome .reply) (r .outcome .list) h ≡ h))
+empty-batch w t = (empty-exactly w t, λ said. (empty-leaves w t said, λ h. rw said (put-none h)))

@@ -3,9 +3,9 @@
 use libc::EINTR;
 use libc::STDIN_FILENO;
 use libc::STDOUT_FILENO;
-ghost use mathlib.Core.Path.{_≡_};
 ghost use Prim.Native.Nat.{_≤_};
-ghost use lib.ListN.{length};
+ghost use Rattle.script.specs.Sessions.{lineKept};
+ghost use Rattle.script.specs.Feeding.{Buffers};
 
 // Prints all of a text, or says on standard error that it cannot.
 fn print(text: &[u8]) -> bool {
@@ -16,6 +16,15 @@ fn print(text: &[u8]) -> bool {
     is_written
 }
 
+// A read failed: whether a signal interrupted it. If not, that is said on standard error.
+fn interrupted() -> bool {
+    let is_interrupted = os::errno() == EINTR;
+    if !is_interrupted {
+        os::fail(b"lending_desk: standard input");
+    }
+    is_interrupted
+}
+
 // Answers the lines that end in a block; whether they could be printed.
 fn serve_block(
     book: &mut [u32],
@@ -24,8 +33,8 @@ fn serve_block(
     block: &[u8],
     out: &mut [u8],
 ) -> bool
-    requires { ⌜ (length (now line) ≡ 178) × (now kept ≤ 178) × (266 ≤ length (now out)) ⌝ }
-    ensures { λ r. ⌜ now (kept .exit) ≤ 178 ⌝ }
+    requires { ⌜ Buffers (now line) (now kept) (now out) ⌝ }
+    ensures { λ r. ⌜ now (kept .exit) ≤ lineKept ⌝ }
 {
     let mut at: usize = 0;
     while at < block.len() {
@@ -40,51 +49,29 @@ fn serve_block(
     true
 }
 
-// Reads once and answers what came, before more is waited for; whether there may be more.
-fn serve_some(
-    book: &mut [u32],
-    line: &mut [u8],
-    kept: &mut usize,
-    input: &mut [u8],
-    out: &mut [u8],
-) -> bool
-    requires { ⌜ (length (now line) ≡ 178) × (now kept ≤ 178) × (266 ≤ length (now out)) ⌝ }
-    ensures { λ r. ⌜ now (kept .exit) ≤ 178 ⌝ }
-{
-    let got = libc::read(STDIN_FILENO, input);
-    if got < 0 {
-        if os::errno() == EINTR {
-            return true;
-        }
-        os::fail(b"lending_desk: standard input");
-        return false;
-    }
-    if got == 0 {
-        let begun = *kept;
-        let written = script::end_input(book, &line[..begun], out);
-        print(&out[..written]);
-        return false;
-    }
-    let n = io::count(got, input);
-    serve_block(book, line, kept, &input[..n], out)
-}
-
-// A proved loop has to end, and nothing says that the input does: the loop counts its turns down from a number that no
-// run uses up.
-fn serve(book: &mut [u32], line: &mut [u8], input: &mut [u8], out: &mut [u8])
-    requires { ⌜ (length (now line) ≡ 178) × (266 ≤ length (now out)) ⌝ }
-{
-    let mut kept: usize = 0;
-    let mut turns = u64::MAX;
-    while turns > 0 && serve_some(book, line, &mut kept, input, out) {
-        turns -= 1;
-    }
-}
-
+// Reads, and answers what came before more is waited for, until the input has ended. A proved loop has to end, and
+// nothing says that the input does: the loop counts its turns down from a number that no run uses up.
 fn main() {
     let mut book = [0u32; layout::WORDS];
     let mut line = [0u8; script::LINE];
     let mut input = io::large_buffer();
     let mut out = io::large_buffer();
-    serve(&mut book, &mut line, &mut input, &mut out);
+    let mut kept: usize = 0;
+    let mut turns = u64::MAX;
+    while turns > 0 {
+        let got = libc::read(STDIN_FILENO, &mut input);
+        if got == 0 {
+            let written = script::end_input(&mut book, &line[..kept], &mut out);
+            print(&out[..written]);
+            return;
+        }
+        if got < 0 && !interrupted() {
+            return;
+        }
+        let count = io::count(got, &input);
+        if !serve_block(&mut book, &mut line, &mut kept, &input[..count], &mut out) {
+            return;
+        }
+        turns -= 1;
+    }
 }

@@ -1,3 +1,4 @@
+pub mod Batches
 pub mod Calls
 pub mod Fields
 pub mod Reading

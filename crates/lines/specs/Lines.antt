@@ -1,4 +1,4 @@
--- Document 01, "Script program": a line of a script as a call.
+-- Document 01, "Script program", and 02, No. 2: a line of a script as a call.
 use Prim.Native.Nat.{ℕ, _-_}
 use Prim.Native.Char.{code}
 use mathlib.Core.Bool.{cond, not, _&&_}
@@ -7,8 +7,8 @@ use mathlib.Core.List.{List, [], _∷_, _++_}
 use lib.Dec.{eqb, leb}
 use lib.ListN.{length, getD, replicate}
 use Rattle.store.specs.Store.{objectCount, listLength}
-use Rattle.protocol.specs.Calls.{someAbove}
-use Rattle.protocol.specs.Call.{Call, setUp, begin, operate, finish, cancel}
+use Rattle.protocol.specs.Calls.{someAbove, tooMany}
+use Rattle.protocol.specs.Call.{Call, setUp, begin, operate, batch, finish, cancel}
 use Rattle.text.specs.Text.{split, numberIn}
 
 -- The list that finish and cancel are lent.
@@ -35,6 +35,11 @@ setUpOf kinds =
     cond (leb (length kinds) objectCount && not (someAbove 255 kinds))
     (some (setUp (kinds ++ replicate (objectCount - length kinds) 0))) none
 
+-- A transaction, then up to 16 operations, four numbers for each.
+abbrev pub batchOf : List ℕ → Option Call
+batchOf [] = none
+batchOf (t ∷ operations) = cond (tooMany operations) none (some (batch t operations))
+
 -- The call of a letter, with these arguments.
 abbrev pub asked : ℕ → List ℕ → Option Call
 asked letter arguments =
@@ -43,9 +48,10 @@ asked letter arguments =
     (cond (eqb letter (code "B")) (withCount 1 arguments (begin (argument 0)))
     (cond (eqb letter (code "I"))
     (withCount 5 arguments (operate (argument 0) (argument 1) (argument 2) (argument 3) (argument 4)))
+    (cond (eqb letter (code "G")) (batchOf arguments)
     (cond (eqb letter (code "F")) (withCount 1 arguments (finish (argument 0) lent))
     (cond (eqb letter (code "C")) (withCount 1 arguments (cancel (argument 0) lent))
-    none))))
+    none)))))
 
 abbrev pub askedWith : ℕ → Option (List ℕ) → Option Call
 askedWith letter none = none

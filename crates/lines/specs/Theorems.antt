@@ -10,32 +10,32 @@ use borrow.Table.Steps.{cases}
 use lib.Dec.{ltb}
 use lib.ListN.{length, take, replicate}
 use lib.Seq.{take-all, length-take-le}
-use Rattle.protocol.specs.Call.{setUp, contents}
+use Rattle.protocol.specs.Call.{batch, contents}
 use Rattle.text.specs.Text.{ascii, split, numberIn}
 use Rattle.lines.specs.Lines.{callIn}
 use Rattle.lines.specs.Laws.Lengths.{spread-split, long-none}
 use Rattle.lines.specs.Laws.Letters.{none-contents}
 
--- A call has a letter and at most 16 fields, each a space and at most ten digits.
-pub no-long-call : (line : List ℕ) → 177 < length line → callIn line ≡ none
+-- A call has a letter and at most 65 fields, each a space and at most ten digits.
+pub no-long-call : (line : List ℕ) → 716 < length line → callIn line ≡ none
 unfolding callIn
 no-long-call line long = long-none (split (code " ") line) (omega (arith, spread-split (code " ") line))
 
--- There is one of 177.
-pub longest-call : let line : List ℕ = code "S" ∷ flatten (replicate 16 (ascii " 0000000001")) in
-    (length line ≡ 177) × (callIn line ≡ some (setUp (replicate 16 1)))
+-- There is one of 716.
+pub longest-call : let line : List ℕ = code "G" ∷ flatten (replicate 65 (ascii " 0000000001")) in
+    (length line ≡ 716) × (callIn line ≡ some (batch 1 (replicate 64 1)))
 unfolding callIn numberIn flatten
 longest-call = (refl, refl)
 
--- 178 bytes of a line are enough to read it.
-pub front-enough : (line : List ℕ) → callIn (take 178 line) ≡ callIn line
+-- 717 bytes of a line are enough to read it.
+pub front-enough : (line : List ℕ) → callIn (take 717 line) ≡ callIn line
 front-enough line =
-    cases (ltb 178 (length line))
+    cases (ltb 717 (length line))
     (λ e.
-    let long : 178 < length line = ltb-true 178 (length line) e in
-    no-long-call (take 178 line) (omega (arith, length-take-le 178 line (omega arith)))
+    let long : 717 < length line = ltb-true 717 (length line) e in
+    no-long-call (take 717 line) (omega (arith, length-take-le 717 line (omega arith)))
     ∙ sym (no-long-call line (omega arith)))
-    (λ e. ap callIn (take-all 178 line (ltb-false 178 (length line) e)))
+    (λ e. ap callIn (take-all 717 line (ltb-false 717 (length line) e)))
 
 -- No line asks for contents.
 pub never-contents : (line : List ℕ) (o : ℕ) → callIn line ≡ some (contents o) → ⊥

@@ -1,19 +1,23 @@
 // A line of a script, read as a call.
 use layout::OBJECTS;
+use protocol::BATCH;
+use protocol::OPERATION_WORDS;
 use text::Number;
 ghost use mathlib.Core.Path.{_≡_};
 ghost use mathlib.Core.List.{List};
 ghost use Prim.Native.Nat.{ℕ, _≤_};
 ghost use lib.ListN.{length, take, drop};
-ghost use Rattle.lines.specs.Lines.{asked, setUpOf, callIn};
-ghost use Rattle.lines.specs.Coded.{callOf, argumentsOf, few, behind};
+ghost use Rattle.lines.specs.Lines.{asked, setUpOf, batchOf, callIn};
+ghost use Rattle.lines.specs.Coded.{callOf, wordsOf, argumentsOf, few, behind};
 
-// What a line asks for. The kinds of a set up stand beside it.
+// What a line asks for. The kinds of a set up and the operations of a batch stand beside it.
 pub enum Call {
     SetUp,
     Begin(u32),
     // transaction, object, operation, key or item, value
     Operate(u32, u32, u32, u32, u32),
+    // transaction, how many words of operations
+    Batch(u32, usize),
     Finish(u32),
     Cancel(u32),
     Unread,
@@ -22,6 +26,7 @@ pub enum Call {
 pub struct Line {
     pub call: Call,
     pub kinds: [u8; OBJECTS],
+    pub operations: [u32; MOST_OPERATIONS],
 }
 
 // A call's arguments.
@@ -31,8 +36,11 @@ struct Arguments {
     values: [u32; MOST_ARGUMENTS],
 }
 
-// Set up has the most: a kind for each object.
-const MOST_ARGUMENTS: usize = OBJECTS;
+// The words of a batch's operations.
+pub const MOST_OPERATIONS: usize = OPERATION_WORDS * BATCH;
+
+// A batch has the most: its transaction, and these.
+pub const MOST_ARGUMENTS: usize = 1 + MOST_OPERATIONS;
 
 // A kind is a byte.
 const LARGEST_KIND: u32 = u8::MAX as u32;
@@ -45,13 +53,14 @@ fn unread() -> Line
     Line {
         call: Call::Unread,
         kinds: [0; OBJECTS],
+        operations: [0; MOST_OPERATIONS],
     }
 }
 
 // The numbers behind a line's letter.
 fn read_arguments(line: &[u8]) -> Arguments
     requires { ⌜ 1 ≤ length (now line) ⌝ }
-    ensures { λ r. ⌜ (argumentsOf r ≡ few (behind (drop 1 (now (line .entry))))) × (r .count ≤ 16) ⌝ }
+    ensures { λ r. ⌜ (argumentsOf r ≡ few (behind (drop 1 (now (line .entry))))) × (r .count ≤ 65) ⌝ }
 {
     let mut values = [0u32; MOST_ARGUMENTS];
     let mut count: usize = 0;
@@ -86,9 +95,13 @@ fn read_arguments(line: &[u8]) -> Arguments
 
 // A set up of these kinds, the missing ones 0.
 fn set_up(count: usize, values: [u32; MOST_ARGUMENTS]) -> Line
-    requires { ⌜ count ≤ 16 ⌝ }
-    ensures { λ r. ⌜ callOf (r .call) (r .kinds) ≡ setUpOf (take count values) ⌝ }
+    requires { ⌜ count ≤ 65 ⌝ }
+    ensures { λ r. ⌜ (callOf (r .call) (r .kinds) (r .operations) ≡ setUpOf (take count values))
+        × (wordsOf (r .call) ≤ 64) ⌝ }
 {
+    if OBJECTS < count {
+        return unread();
+    }
     let mut kinds = [0u8; OBJECTS];
     for i in 0..count {
         let kind = values[i];
@@ -100,13 +113,46 @@ fn set_up(count: usize, values: [u32; MOST_ARGUMENTS]) -> Line
     Line {
         call: Call::SetUp,
         kinds,
+        operations: [0; MOST_OPERATIONS],
     }
 }
 
-// Any other call. It needs no kinds.
+// All values but the first.
+fn rest(values: [u32; MOST_ARGUMENTS]) -> [u32; MOST_OPERATIONS]
+    ensures { λ r. ⌜ r ≡ drop 1 values ⌝ }
+{
+    let mut operations = [0u32; MOST_OPERATIONS];
+    for i in 0..MOST_OPERATIONS {
+        operations[i] = values[i + 1];
+    }
+    operations
+}
+
+// A batch: the first is its transaction, the others are its operations, four numbers for each.
+fn batch(count: usize, values: [u32; MOST_ARGUMENTS]) -> Line
+    requires { ⌜ count ≤ 65 ⌝ }
+    ensures { λ r. ⌜ (callOf (r .call) (r .kinds) (r .operations) ≡ batchOf (take count values))
+        × (wordsOf (r .call) ≤ 64) ⌝ }
+{
+    if count == 0 {
+        return unread();
+    }
+    let words = count - 1;
+    if words % OPERATION_WORDS != 0 {
+        return unread();
+    }
+    Line {
+        call: Call::Batch(values[0], words),
+        kinds: [0; OBJECTS],
+        operations: rest(values),
+    }
+}
+
+// Any other call. Nothing stands beside it.
 fn call_of(letter: u8, count: usize, values: [u32; MOST_ARGUMENTS]) -> Call
-    requires { ⌜ (count ≤ 16) × (letter ≡ 83 → ⊥) ⌝ }
-    ensures { λ r. ⌜ ((kinds : List ℕ) → callOf r kinds ≡ asked letter (take count values)) ⌝ }
+    requires { ⌜ (count ≤ 65) × (letter ≡ 83 → ⊥) × (letter ≡ 71 → ⊥) ⌝ }
+    ensures { λ r. ⌜ ((kinds operations : List ℕ) → callOf r kinds operations ≡ asked letter (take count values))
+        × (wordsOf r ≤ 64) ⌝ }
 {
     if letter == b'I' && count == 5 {
         return Call::Operate(values[0], values[1], values[2], values[3], values[4]);
@@ -123,8 +169,10 @@ fn call_of(letter: u8, count: usize, values: [u32; MOST_ARGUMENTS]) -> Call
     }
 }
 
+// A batch counts no more words than `operations` has.
 pub fn read_line(line: &[u8]) -> Line
-    ensures { λ r. ⌜ callOf (r .call) (r .kinds) ≡ callIn (now (line .entry)) ⌝ }
+    ensures { λ r. ⌜ (callOf (r .call) (r .kinds) (r .operations) ≡ callIn (now (line .entry)))
+        × (wordsOf (r .call) ≤ 64) ⌝ }
 {
     if line.len() == 0 {
         return unread();
@@ -139,8 +187,12 @@ pub fn read_line(line: &[u8]) -> Line
     if letter == b'S' {
         return set_up(count, values);
     }
+    if letter == b'G' {
+        return batch(count, values);
+    }
     Line {
         call: call_of(letter, count, values),
         kinds: [0; OBJECTS],
+        operations: [0; MOST_OPERATIONS],
     }
 }

@@ -43,6 +43,8 @@ pub struct Operation {
     pub value: u32,
 }
 
+// An answer: code and value. C reads it too.
+#[repr(C)]
 pub struct Answer {
     pub code: u32,
     pub value: u32,

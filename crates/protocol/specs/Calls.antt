@@ -1,6 +1,6 @@
 -- Document 01, "Calls" and "Reasons for saying no", and 02: each call, from every word of a book and any arguments to
 -- all that it leaves.
-use Prim.Native.Nat.{ℕ, zero, suc, _-_}
+use Prim.Native.Nat.{ℕ, zero, suc, _-_, _*_, _%_}
 use mathlib.Core.Bool.{Bool, true, false, cond, decide, not, _&&_, _||_}
 use mathlib.Core.Option.{Option, none, some}
 use mathlib.Core.List.{List, [], _∷_, _++_, map}
@@ -10,7 +10,7 @@ use Rattle.operations.specs.Operations.{Kind, Operation, Answer, stored, answer
 use Rattle.operations.specs.PairRules.{recoverable, firstNumber, lastNumber}
 use Rattle.operations.specs.Log.{Entry, after}
 use Rattle.operations.specs.Operations.{adds}
-use Rattle.bitset.specs.Bitset.{including, size}
+use Rattle.bitset.specs.Bitset.{including, union, size}
 use Rattle.store.specs.Store.{transactionCount, objectCount, entryLimit, listLength}
 use Rattle.store.specs.Store.{Status, absent, active, pseudoCommitted, Store, statusOf, objectOf, pseudoCommittedCount}
 use Rattle.store.specs.Store.{onObject}
@@ -22,7 +22,35 @@ use Rattle.protocol.specs.Replies.{Reply, ok, answered, wait, finished, 
 use Rattle.protocol.specs.Replies.{refused, outcome, Served, served}
 use Rattle.protocol.specs.Ending.{ended, commit, Settlement, committedFirst, settledAll}
 
--- ---- Reasons for saying no, as 01 numbers them
+-- ---- Operations lent as words (01, 02 No. 2)
+
+-- An operation that a call asks for, as the words of a batch say it: its object, its number, its key or item, and its
+-- value.
+pub record LentOperation : Type 0 where
+  pub object : ℕ
+  pub number : ℕ
+  pub key : ℕ
+  pub value : ℕ
+
+abbrev pub lentOperation : ℕ → ℕ → ℕ → ℕ → LentOperation
+lentOperation o number k v = record { object = o; number = number; key = k; value = v }
+
+-- The words of one, and how many a batch may have.
+abbrev pub operationWords : ℕ
+operationWords = 4
+
+abbrev pub batchLimit : ℕ
+batchLimit = 16
+
+-- The operations lent as words, four for each. A part of one at the end is none of them; 12 refuses it.
+abbrev pub operationsIn : List ℕ → List LentOperation
+operationsIn [] = []
+operationsIn (o ∷ []) = []
+operationsIn (o ∷ number ∷ []) = []
+operationsIn (o ∷ number ∷ k ∷ []) = []
+operationsIn (o ∷ number ∷ k ∷ v ∷ l) = lentOperation o number k v ∷ operationsIn l
+
+-- ---- Reasons for saying no, as 01 and 02 number them
 
 -- 1: the book isn't 3,937 words long.
 abbrev pub wrongLength : List ℕ → Bool
@@ -62,7 +90,7 @@ isActive absent = false
 isActive active = true
 isActive (pseudoCommitted rank) = false
 
--- 7: operate, finish or cancel names one that isn't active (open).
+-- 7: operate, batch, finish or cancel names one that isn't active (open).
 abbrev pub notActive : Store → ℕ → Bool
 notActive s t = not (isActive (statusOf s t))
 
@@ -83,14 +111,24 @@ isOf (some kind) number = leb (firstNumber kind) number && leb number (lastNumbe
 abbrev pub notOfKind : Store → ℕ → ℕ → Bool
 notOfKind s o number = not (isOf (objectOf s o .kind) number)
 
--- 10: the log holds 256 entries.
+-- 10: the log holds 256 entries; of an operation of a batch, with those before it entered (`limits`).
 abbrev pub logFull : Store → Bool
 logFull s = leb entryLimit (length (s .log))
 
 -- 11: a push or insert, of a key that is there already too, finds rows plus logged pushes and inserts of the object at
--- the limit.
+-- the limit; in a batch likewise.
 abbrev pub noRoom : Format → Store → ℕ → Operation → Bool
 noRoom format s o requested = adds requested && leb (format .limit) (format .used s o)
+
+-- 12: more than 16 operations are lent; a part of one at the end counts as more than is allowed.
+abbrev pub tooMany : List ℕ → Bool
+tooMany operations =
+    ltb (operationWords * batchLimit) (length operations) || not (eqb (length operations % operationWords) 0)
+
+-- 8 and 9 of each of several: "the first operation with an 8 or 9 of its own gives the number".
+abbrev pub ownReasons : Store → List LentOperation → List (ℕ × Bool)
+ownReasons s [] = []
+ownReasons s (q ∷ qs) = (8, withoutKind s (q .object)) ∷ (9, notOfKind s (q .object) (q .number)) ∷ ownReasons s qs
 
 -- The number of the first reason that applies; 0 where none does.
 abbrev pub first : List (ℕ × Bool) → ℕ
@@ -102,7 +140,7 @@ abbrev pub unless : ℕ → List ℕ → List ℕ → Served → Served
 unless zero w list s = s
 unless (suc n) w list s = served w (outcome (refused (suc n)) list [])
 
--- ---- What set up and operate go by
+-- ---- What set up, operate and batch go by
 
 -- An empty book of these kinds.
 abbrev pub empty : List ℕ → Store
@@ -142,13 +180,41 @@ module _ (format : Format) where
   abbrev pub request : ℕ → ℕ → ℕ → Operation
   request number k v = orPop (stored (format .reduce) number k v)
 
-  -- Where the set of those that force it to wait is empty, entered and answered; else told to wait for them, with
+  abbrev pub requested : LentOperation → Operation
+  requested q = request (q .number) (q .key) (q .value)
+
+  -- One of several operations, entered.
+  abbrev pub run : ℕ → LentOperation → Store → Store
+  run t q s = entered t (q .object) (requested q) s
+
+  -- They run in order, each seeing those before it: the store that they leave,
+  abbrev pub runAll : ℕ → List LentOperation → Store → Store
+  runAll t [] s = s
+  runAll t (q ∷ qs) s = runAll t qs (run t q s)
+
+  -- and their answers.
+  abbrev pub answersTo : ℕ → List LentOperation → Store → List Answer
+  answersTo t [] s = []
+  answersTo t (q ∷ qs) s = answerTo (requested q) s (q .object) ∷ answersTo t qs (run t q s)
+
+  -- All that force some of them to wait: the owners joined. A batch's own operations never force it to wait.
+  abbrev pub awaited : ℕ → Store → List LentOperation → ℕ
+  awaited t s [] = 0
+  awaited t s (q ∷ qs) = union (awaited t s qs) (owners t (requested q) (onObject (q .object) (s .log)))
+
+  -- Of each, whether it meets a limit with those before it entered: "The log and row limits now count the batch
+  -- together".
+  abbrev pub limits : ℕ → (Store → LentOperation → Bool) → ℕ → Store → List LentOperation → List (ℕ × Bool)
+  limits number meets t s [] = []
+  limits number meets t s (q ∷ qs) = (number, meets s q) ∷ limits number meets t (run t q s) qs
+
+  -- Where the set of those that force a wait is empty, all are entered and answered; else told to wait for them, with
   -- nothing changed.
-  abbrev pub respond : List ℕ → ℕ → ℕ → Operation → ℕ → Served
-  respond w t o requested zero =
+  abbrev pub respond : List ℕ → ℕ → List LentOperation → ℕ → Served
+  respond w t qs zero =
       let s = decode format w in
-      served (encode format (entered t o requested s)) (outcome (answered (answerTo requested s o)) [] [])
-  respond w t o requested (suc n) = served w (outcome (wait (suc n) (size (suc n))) [] [])
+      served (encode format (runAll t qs s)) (outcome (answered (answersTo t qs s)) [] [])
+  respond w t qs (suc n) = served w (outcome (wait (suc n) (size (suc n))) [] [])
 
   -- Those that committed go to the list's front; the rest of the list keeps its bytes.
   abbrev pub concluded : (ℕ → Reply) → List ℕ → Settlement → Served
@@ -182,19 +248,29 @@ module _ (format : Format) where
         unless (beginReason w t) w []
         (served (encode format (withStatus t active (decode format w))) (outcome ok [] []))
 
-    abbrev pub operateReason : List ℕ → ℕ → ℕ → ℕ → ℕ → ℕ → ℕ
-    operateReason w t o number k v =
+    abbrev pub batchReason : List ℕ → ℕ → List ℕ → ℕ
+    batchReason w t operations =
         let s = decode format w in
+        let qs = operationsIn operations in
         first (
-        (1, wrongLength w) ∷ (4, unsound whetherSound w) ∷ (5, aboveLast t) ∷ (7, notActive s t) ∷ (8, withoutKind s o)
-        ∷ (9, notOfKind s o number) ∷ (10, logFull s) ∷ (11, noRoom format s o (request number k v)) ∷ []
+        (1, wrongLength w) ∷ (4, unsound whetherSound w) ∷ (5, aboveLast t) ∷ (12, tooMany operations)
+        ∷ (7, notActive s t)
+        ∷ (ownReasons s qs ++ (limits 10 (λ s q. logFull s) t s qs
+        ++ limits 11 (λ s q. noRoom format s (q .object) (requested q)) t s qs))
         )
 
+    -- Up to 16 operations of one transaction, answered entirely or not at all (02, No. 2).
+    unfoldable pub batch : List ℕ → ℕ → List ℕ → Served
+    batch w t operations =
+        let qs = operationsIn operations in
+        unless (batchReason w t operations) w [] (respond w t qs (awaited t (decode format w) qs))
+
+    -- Operate is the batch of one operation. 12 never applies to it.
+    abbrev pub operateReason : List ℕ → ℕ → ℕ → ℕ → ℕ → ℕ → ℕ
+    operateReason w t o number k v = batchReason w t (o ∷ number ∷ k ∷ v ∷ [])
+
     unfoldable pub operate : List ℕ → ℕ → ℕ → ℕ → ℕ → ℕ → Served
-    operate w t o number k v =
-        let requested = request number k v in
-        unless (operateReason w t o number k v) w []
-        (respond w t o requested (owners t requested (onObject o (decode format w .log))))
+    operate w t o number k v = batch w t (o ∷ number ∷ k ∷ v ∷ [])
 
     -- Of finish and of cancel.
     abbrev pub endReason : List ℕ → ℕ → List ℕ → ℕ

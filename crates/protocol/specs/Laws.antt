@@ -7,6 +7,8 @@ pub mod Waiting
 pub mod Listing
 pub mod Detours
 pub mod Keeping
+pub mod Batches
+pub mod Lent
 pub mod Kept
 pub mod Protocol
 pub mod Commits

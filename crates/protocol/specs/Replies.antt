@@ -6,8 +6,8 @@ use Rattle.operations.specs.Operations.{Answer}
 -- The replies of documents 01 and 02, in their words.
 pub data Reply : Type 0 where
   ok : Reply
-  -- an operation's answer, code and value
-  answered : Answer → Reply
+  -- the answers of the call's operations in order, each a code and a value; operate has one
+  answered : (answers : List Answer) → Reply
   -- the owners whose entries force the wait, as a set of 64 bits, and their number (02, No. 1)
   wait : (owners count : ℕ) → Reply
   finished : Reply

@@ -2,16 +2,17 @@
 -- operation is answered, told to wait, ordered behind another, finished, cancelled for a circle or committed exactly
 -- where document 000's recoverability and commit protocol (sections 4.2.1 and 4.3), as 01 and 02 fix them, says so; and
 -- what every call keeps.
-use Prim.Native.Nat.{ℕ, _+_, _*_, _^_, _<_, _≤_}
-use mathlib.Core.Path.{_≡_, sym, ap, _∙_, subst, subst⁻¹}
+use Prim.Native.Nat.{ℕ, _+_, _*_, _%_, _^_, _<_, _≤_}
+use mathlib.Core.Path.{_≡_, refl, sym, ap, _∙_, subst, subst⁻¹}
 use mathlib.Core.Bool.{true, false}
 use mathlib.Core.Logic.{_↔_, _⊎_, Iff·rfl, Iff·trans, Iff·and}
 use mathlib.Core.Option.{some}
 use mathlib.Core.List.{List, [], _∷_, _++_, map}
 use native.Mathlib.Omega.{arith}
-use lib.ListN.{length, length-set, replicate, take, drop}
+use lib.ListN.{length, getD, length-set, replicate, take, drop}
 use lib.Seq.{getD-set-same, getD-set-other}
-use Rattle.operations.specs.Operations.{Kind, Operation, Answer, All, numberOf, keyOf, valueOf, answer, next}
+use Rattle.operations.specs.Operations.{Kind, Operation, Answer, answering, All, numberOf, keyOf, valueOf, answer}
+use Rattle.operations.specs.Operations.{next, reduceKey}
 use Rattle.operations.specs.PairRules.{recoverable, commutes}
 use Rattle.operations.specs.Log.{Entry, after}
 use Rattle.operations.specs.Laws.Objects.{object}
@@ -20,7 +21,7 @@ use Rattle.store.specs.Store.{absent, active, pseudoCommitted, Logged, Store, s
 use Rattle.store.specs.Store.{pseudoCommittedCount, objectOf, onObject}
 use Rattle.store.specs.Dependency.{Any, DependsOn, Ready, Leads, OnCycle}
 use Rattle.store.specs.Layout.{decode, word, rowsStart, readKind, joined, rowWords, Representable, base}
-use Rattle.store.specs.Steps.{appended, without, withStatus}
+use Rattle.store.specs.Steps.{withLog, appended, without, withStatus}
 use Rattle.store.specs.Soundness.{Unsettled, Sound}
 use Rattle.store.specs.Decisions.{whetherSound}
 use Rattle.store.specs.Theorems.{representable, none-left}
@@ -28,16 +29,23 @@ use Rattle.store.specs.Laws.Changes.{representable-status}
 use Rattle.protocol.specs.Replies.{Served, ok, answered, wait, finished, committed, circle, cancelled, counted}
 use Rattle.protocol.specs.Replies.{refused}
 use Rattle.protocol.specs.Ending.{ended, commit, Settlement, settledAll}
-use Rattle.protocol.specs.Calls.{setUpReason, setUp, beginReason, begin, owners, request, operateReason, operate}
-use Rattle.protocol.specs.Calls.{endReason, finish, cancel, contentsReason, contents}
-use Rattle.protocol.specs.Call.{Call, desk, reasonOf, listOf}
-use Rattle.protocol.specs.Terms.{SetUpAccepted, BeginAccepted, OperateAccepted, EndAccepted, ContentsAccepted}
+use Rattle.protocol.specs.Calls.{LentOperation, lentOperation, operationsIn, owners, request, awaited}
+use Rattle.protocol.specs.Calls.{setUpReason, setUp, beginReason, begin, batchReason, batch}
+use Rattle.protocol.specs.Calls.{operateReason, operate, endReason, finish, cancel, contentsReason, contents}
+use Rattle.protocol.specs.Calls as calls
+use Rattle.protocol.specs.Call as calling
+use Rattle.protocol.specs.Call.{Call, answeredOperations, desk, reasonOf, listOf}
+use Rattle.protocol.specs.Terms.{SetUpAccepted, BeginAccepted, OperateAccepted, BatchAccepted, EndAccepted}
+use Rattle.protocol.specs.Terms.{ContentsAccepted, BatchPremises, Has8, Has9, HasNeither, FirstOwn, SomeCrowded}
 use Rattle.protocol.specs.Terms.{LowestReady, Places, Owner, Among, Ascends, inOrder, withoutAll, Distinct}
 use Rattle.protocol.specs.Laws.Reasons.{set-up-accepted, set-up-accepts, begin-accepted, begin-accepts}
-use Rattle.protocol.specs.Laws.Reasons.{operate-accepted, operate-accepts, end-accepted, end-accepts}
-use Rattle.protocol.specs.Laws.Reasons.{contents-accepted, contents-accepts}
-use Rattle.protocol.specs.Laws.Waiting.{none-owned, owned-exactly, none-awaited}
-use Rattle.protocol.specs.Laws.Listing.{listed, ascend}
+use Rattle.protocol.specs.Laws.Reasons.{operate-accepted, operate-accepts, batch-accepted, batch-accepts}
+use Rattle.protocol.specs.Laws.Reasons.{end-accepted, end-accepts, contents-accepted, contents-accepts, too-many}
+use Rattle.protocol.specs.Laws.Reasons.{too-many-exactly, own-reason, own-8, own-9, log-reason, row-reason}
+use Rattle.protocol.specs.Laws.Waiting.{held-exactly, none-owned, owned-exactly, owner-below, none-awaited}
+use Rattle.protocol.specs.Laws.Lent.{row-limit}
+use Rattle.protocol.specs.Laws.Batches as batches
+use Rattle.protocol.specs.Laws.Listing.{listed-as}
 use Rattle.protocol.specs.Laws.Settling.{lowest-found, none-ready, settled-end, settled-step}
 use Rattle.protocol.specs.Laws.Protocol as protocol
 use Rattle.protocol.specs.Laws.Commits as commits
@@ -70,6 +78,11 @@ pub operate-may : (w : List ℕ) (t o number k v : ℕ)
     → (operateReason base whetherSound w t o number k v ≡ 0) ↔ OperateAccepted base w t o number k v
 operate-may w t o number k v =
     (operate-accepted base whetherSound w t o number k v, operate-accepts base whetherSound w t o number k v)
+
+pub batch-may : (w : List ℕ) (t : ℕ) (operations : List ℕ)
+    → (batchReason base whetherSound w t operations ≡ 0) ↔ BatchAccepted base w t operations
+batch-may w t operations =
+    (batch-accepted base whetherSound w t operations, batch-accepts base whetherSound w t operations)
 
 pub end-may : (w : List ℕ) (t : ℕ) (list : List ℕ)
     → (endReason base whetherSound w t list ≡ 0) ↔ EndAccepted base w t list
@@ -140,12 +153,12 @@ module _ (w : List ℕ) (t o number k v : ℕ) (accepted : operateReason base wh
   operated = operate base whetherSound w t o number k v
 
   -- It is answered exactly where it is recoverable against every entry of another transaction on the object,
-  pub operate-answered-exactly : ((a : Answer) × (operated .outcome .reply ≡ answered a))
+  pub operate-answered-exactly : ((a : Answer) × (operated .outcome .reply ≡ answered (a ∷ [])))
       ↔ All (λ (e : Entry Operation Answer). (e .transaction ≡ t → ⊥) → recoverable requested (e .operation) ≡ true)
       (onObject o (s .log))
   operate-answered-exactly =
       rw (protocol.responded w t o number k v accepted)
-      (Iff·trans (protocol.answered-none w t o requested (owners t requested (onObject o (s .log))))
+      (Iff·trans (protocol.answered-once w t (lentOperation o number k v) (owners t requested (onObject o (s .log))))
       (none-owned t requested (onObject o (s .log))))
 
   -- else waits for a set, not empty, whose members are exactly the other transactions with an entry on the object that
@@ -154,20 +167,20 @@ module _ (w : List ℕ) (t o number k v : ℕ) (accepted : operateReason base wh
       ↔ (Holds set (Owner t requested (onObject o (s .log))) × (set ≡ 0 → ⊥) × (count ≡ size set)))
       × (operated .outcome .reply ≡ wait set count → operated .book ≡ w)
   operate-waits-exactly set count =
-      let awaited = owners t requested (onObject o (s .log)) in
+      let barring = owners t requested (onObject o (s .log)) in
       let exactly = owned-exactly t requested (onObject o (s .log)) set in
       rw (protocol.responded w t o number k v accepted) (
-        Iff·trans (protocol.waits-some w t o requested set count awaited)
+        Iff·trans (protocol.waits-some w t (lentOperation o number k v ∷ []) set count barring)
             (λ p. (exactly .0 (p .0), p .1, p .2), λ p. (exactly .1 (p .0), p .1, p .2)),
-        protocol.waits-unchanged w t o requested set count awaited,
+        protocol.waits-unchanged w t (lentOperation o number k v ∷ []) set count barring,
       )
 
   -- there is no third reply.
-  pub operate-either : ((a : Answer) × (operated .outcome .reply ≡ answered a))
+  pub operate-either : ((a : Answer) × (operated .outcome .reply ≡ answered (a ∷ [])))
       ⊎ ((set count : ℕ) × (operated .outcome .reply ≡ wait set count))
   operate-either =
       rw (protocol.responded w t o number k v accepted)
-      (protocol.either-reply w t o requested (owners t requested (onObject o (s .log))))
+      (protocol.either-once w t (lentOperation o number k v) (owners t requested (onObject o (s .log))))
 
   -- The set has 64 bits. Listed, as a script prints them, its members are exactly these, ascend, and are as many as it
   -- says.
@@ -176,12 +189,9 @@ module _ (w : List ℕ) (t o number k v : ℕ) (accepted : operateReason base wh
       × Ascends (members set) × (length (members set) ≡ count)
   operate-waits-listed set count said =
       let (owned, others, sized) = operate-waits-exactly set count .0 .0 said in
-      let below = protocol.awaited-below w t o number k v accepted set count said in (
-        below,
-        λ u. Iff·trans (listed set below u) (owned u),
-        ascend set,
-        sym sized,
-      )
+      let sound = operate-accepted base whetherSound w t o number k v accepted .sound in
+      let (few, exactly, ascends) = listed-as _ set owned (owner-below t requested o w sound) in
+      (few, exactly, ascends, sym sized)
 
   -- Once all of them have ended, committed or cancelled, others perhaps too, and nothing has been logged since, the
   -- same operation is not told to wait, whatever else the book then holds: its log is this one without the entries of
@@ -198,7 +208,7 @@ module _ (w : List ℕ) (t o number k v : ℕ) (accepted : operateReason base wh
 
   -- The answer is what replay gives after the object's rows and its entries in order, and the request stands last in
   -- the log with it.
-  pub operate-replayed : (a : Answer) → operated .outcome .reply ≡ answered a
+  pub operate-replayed : (a : Answer) → operated .outcome .reply ≡ answered (a ∷ [])
       → (a ≡ answer requested (after next (onObject o (s .log)) (objectOf s o .rows)))
       × (decode base (operated .book)
       ≡ appended (record { object = o; entry = record { transaction = t; operation = requested; answer = a } }) s)
@@ -207,7 +217,7 @@ module _ (w : List ℕ) (t o number k v : ℕ) (accepted : operateReason base wh
 
   -- Of the book's words an answered one writes eight: the number of entries, which goes up by one, and the seven
   -- behind the entries that there were, which become the new entry's.
-  pub operate-eight-words : (a : Answer) → operated .outcome .reply ≡ answered a
+  pub operate-eight-words : (a : Answer) → operated .outcome .reply ≡ answered (a ∷ [])
       → let after = operated .book in
       let start = 2_145 + 7 * word w 0 in
       (word after 0 ≡ word w 0 + 1)
@@ -235,7 +245,7 @@ module _ (w : List ℕ) (t o number k v : ℕ) (accepted : operateReason base wh
 
   -- Answered, it orders its transaction behind the owners of entries on the object that it does not commute with, and
   -- no other behind anyone.
-  pub ordered-behind : (a : Answer) → operated .outcome .reply ≡ answered a → (x b : ℕ)
+  pub ordered-behind : (a : Answer) → operated .outcome .reply ≡ answered (a ∷ []) → (x b : ℕ)
       → DependsOn (decode base (operated .book) .log) x b
       ↔ (DependsOn (s .log) x b ⊎ ((x ≡ t) × (x ≡ b → ⊥)
       × Any (λ (l : Logged). (l .entry .transaction ≡ b) × (l .object ≡ o)
@@ -245,6 +255,194 @@ module _ (w : List ℕ) (t o number k v : ℕ) (accepted : operateReason base wh
 -- A transaction depends on another exactly where two places of the log say so; d stands for entries past its end.
 pub depends-exactly : (d : Logged) (log : List Logged) (a b : ℕ) → DependsOn log a b ↔ ((a ≡ b → ⊥) × Places d log a b)
 depends-exactly d log a b = Iff·and Iff·rfl (protocol.conflict-places d log a b)
+
+-- ---- Batch
+
+-- Operate is the batch of one operation.
+pub operate-one : (w : List ℕ) (t o number k v : ℕ)
+    → operate base whetherSound w t o number k v ≡ batch base whetherSound w t (o ∷ number ∷ k ∷ v ∷ [])
+unfolding operate
+operate-one w t o number k v = refl
+
+module _ (w : List ℕ) (t : ℕ) (operations : List ℕ) (accepted : batchReason base whetherSound w t operations ≡ 0) where
+  abbrev held : Store
+  held = decode base w
+
+  abbrev qs : List LentOperation
+  qs = operationsIn operations
+
+  abbrev batched : Served
+  batched = batch base whetherSound w t operations
+
+  -- It is answered exactly where each of its operations is recoverable against every entry of another transaction on
+  -- its object,
+  pub batch-answered-exactly : ((given : List Answer) × (batched .outcome .reply ≡ answered given))
+      ↔ All (λ (q : LentOperation).
+      All (λ (e : Entry Operation Answer). (e .transaction ≡ t → ⊥)
+      → recoverable (calls.requested base q) (e .operation) ≡ true)
+      (onObject (q .object) (held .log))) qs
+  batch-answered-exactly =
+      rw (protocol.batch-responded w t operations accepted)
+      (Iff·trans (protocol.answered-none w t qs (awaited base t held qs)) (batches.free-each t held qs))
+
+  -- else waits for a set, not empty, whose members are exactly the other transactions with an entry on the object of
+  -- one of its operations that this one is not recoverable against, says how many they are, and changes no word;
+  pub batch-waits-exactly : (set count : ℕ) → ((batched .outcome .reply ≡ wait set count)
+      ↔ (Holds set (λ u.
+      Any (λ (q : LentOperation). Owner t (calls.requested base q) (onObject (q .object) (held .log)) u) qs)
+      × (set ≡ 0 → ⊥) × (count ≡ size set)))
+      × (batched .outcome .reply ≡ wait set count → batched .book ≡ w)
+  batch-waits-exactly set count =
+      let exactly = held-exactly _ set (awaited base t held qs) (batches.awaits-each t held qs) in
+      rw (protocol.batch-responded w t operations accepted) (
+        Iff·trans (protocol.waits-some w t qs set count (awaited base t held qs))
+            (λ p. (exactly .0 (p .0), p .1, p .2), λ p. (exactly .1 (p .0), p .1, p .2)),
+        protocol.waits-unchanged w t qs set count (awaited base t held qs),
+      )
+
+  -- there is no third reply.
+  pub batch-either : ((given : List Answer) × (batched .outcome .reply ≡ answered given))
+      ⊎ ((set count : ℕ) × (batched .outcome .reply ≡ wait set count))
+  batch-either =
+      rw (protocol.batch-responded w t operations accepted)
+      (protocol.either-reply w t qs (awaited base t held qs))
+
+  -- The set has 64 bits. Listed, its members are exactly these, ascend, and are as many as it says.
+  pub batch-waits-listed : (set count : ℕ) → batched .outcome .reply ≡ wait set count
+      → (set < 2 ^ 64)
+      × ((u : ℕ) → Among u (members set)
+      ↔ Any (λ (q : LentOperation). Owner t (calls.requested base q) (onObject (q .object) (held .log)) u) qs)
+      × Ascends (members set) × (length (members set) ≡ count)
+  batch-waits-listed set count said =
+      let (owned, others, sized) = batch-waits-exactly set count .0 .0 said in
+      let sound = batch-accepted base whetherSound w t operations accepted .sound in
+      let (few, exactly, ascends) = listed-as _ set owned (batches.owner-below t w sound qs) in
+      (few, exactly, ascends, sym sized)
+
+  -- Answered, it has an answer for each operation; the log is that before with their entries behind it, in order, and
+  -- nothing else changes; and each answer is what replay gives after the object's rows, its entries and those of the
+  -- operations before it in the batch.
+  pub batch-replayed : (given : List Answer) → batched .outcome .reply ≡ answered given
+      → let entries = answeredOperations reduceKey t qs given in
+      (length given ≡ length qs)
+      × (decode base (batched .book) ≡ withLog (held .log ++ entries) held)
+      × ((i : ℕ) → i < length qs
+      → let q = getD qs i (lentOperation 0 0 0 0) in
+      getD given i (answering 0 0)
+      ≡ answer (calls.requested base q)
+      (after next (onObject (q .object) (held .log ++ take i entries)) (objectOf held (q .object) .rows)))
+  batch-replayed given said =
+      let replayed = batches.replayed w t operations accepted given said in (
+        ap length replayed ∙ batches.answers-counted t held qs,
+        batches.logged w t operations accepted given said,
+        rw replayed (batches.answer-at t held qs),
+      )
+
+  -- Answered, it orders its transaction behind the owners of entries that one of its operations, on the same object,
+  -- does not commute with, and no other behind anyone.
+  pub batch-ordered-behind : (given : List Answer) → batched .outcome .reply ≡ answered given → (x b : ℕ)
+      → DependsOn (decode base (batched .book) .log) x b
+      ↔ (DependsOn (held .log) x b ⊎ ((x ≡ t) × (x ≡ b → ⊥)
+      × Any (λ (q : LentOperation). Any (λ (l : Logged). (l .entry .transaction ≡ b) × (l .object ≡ q .object)
+      × (commutes (calls.requested base q) (l .entry .operation) ≡ false)) (held .log)) qs))
+  batch-ordered-behind = batches.ordered w t operations accepted
+
+-- All or nothing, whatever the book and the arguments: refused or told to wait, it changes no word; answered, it has an
+-- answer for each operation, and of the store changes the log alone, which gains an entry for each, in order, with its
+-- answer.
+pub all-or-nothing : (w : List ℕ) (t : ℕ) (operations : List ℕ)
+    → let r = batch base whetherSound w t operations in
+    let s = decode base w in
+    let qs = operationsIn operations in
+    ((n : ℕ) → r .outcome .reply ≡ refused n → r .book ≡ w)
+    × ((set count : ℕ) → r .outcome .reply ≡ wait set count → r .book ≡ w)
+    × ((given : List Answer) → r .outcome .reply ≡ answered given
+    → (length given ≡ length qs)
+    × (decode base (r .book) ≡ withLog (s .log ++ answeredOperations reduceKey t qs given) s)
+    × (length (decode base (r .book) .log) ≡ length (s .log) + length qs))
+all-or-nothing w t operations =
+    let call = calling.batch t operations in (
+      λ n said. refused-untouched call w n said .0,
+      λ set count said. batch-waits-exactly w t operations (leaving.no-reason call w (λ n e. protocol.clash cc))
+          set count .1 said,
+      λ given said.
+          let accepted = leaving.no-reason call w (λ n e. protocol.clash cc) in
+          let (complete, logged, answers) = batch-replayed w t operations accepted given said in (
+            complete,
+            logged,
+            ap (λ (s : Store). length (s .log)) (batches.left w t operations accepted given said)
+                ∙ batches.run-all-counted t (decode base w) (operationsIn operations),
+          ),
+    )
+
+-- 12 is said exactly where the book is sound, the transaction's number is below 64, and more than 16 operations are
+-- lent, or the words end in a part of one: whether or not the transaction is active, and whatever the operations.
+pub batch-too-many : (w : List ℕ) (t : ℕ) (operations : List ℕ)
+    → (batch base whetherSound w t operations .outcome .reply ≡ refused 12)
+    ↔ (Sound base w × (t < 64) × ((64 < length operations) ⊎ (length operations % 4 ≡ 0 → ⊥)))
+batch-too-many w t operations =
+    let said = leaving.refused-as (calling.batch t operations) w 12 refl in
+    let exactly = too-many-exactly base whetherSound w t operations in
+    let many = too-many operations in (
+      λ e. let p = exactly .0 (said .0 e) in (p .0, p .1, many .0 (p .2)),
+      λ p. said .1 (exactly .1 (p .0, p .1, many .1 (p .2))),
+    )
+
+-- 8 or 9 is said exactly where 1, 4, 5, 12 and 7 do not apply (`BatchPremises`), and it is that of the first operation
+-- with an 8 or 9 of its own;
+pub batch-own-reason : (w : List ℕ) (t : ℕ) (operations : List ℕ)
+    → let s = decode base w in
+    let qs = operationsIn operations in
+    let reply = batch base whetherSound w t operations .outcome .reply in
+    ((reply ≡ refused 8) ↔ (BatchPremises base w t operations × FirstOwn s (Has8 s) qs))
+    × ((reply ≡ refused 9) ↔ (BatchPremises base w t operations × FirstOwn s (Has9 s) qs))
+batch-own-reason w t operations =
+    let s = decode base w in
+    let qs = operationsIn operations in
+    let before = own-reason base whetherSound w t operations in (
+      Iff·trans (leaving.refused-as (calling.batch t operations) w 8 refl)
+          (Iff·trans (before 8 refl refl refl) (Iff·and Iff·rfl (own-8 s qs))),
+      Iff·trans (leaving.refused-as (calling.batch t operations) w 9 refl)
+          (Iff·trans (before 9 refl refl refl) (Iff·and Iff·rfl (own-9 s qs))),
+    )
+
+-- 10 exactly where no operation has one, and the log's entries and the batch's operations together are more than 256:
+-- so never of an empty batch;
+pub batch-log-full : (w : List ℕ) (t : ℕ) (operations : List ℕ)
+    → let s = decode base w in
+    let qs = operationsIn operations in
+    (batch base whetherSound w t operations .outcome .reply ≡ refused 10)
+    ↔ (BatchPremises base w t operations × All (HasNeither s) qs × (256 < length (s .log) + length qs))
+batch-log-full w t operations =
+    let said = leaving.refused-as (calling.batch t operations) w 10 refl in
+    let exactly = log-reason base whetherSound w t operations in
+    let limit = batches.log-limit-sound t w (operationsIn operations) in (
+      λ e. let (p, (own, met)) = exactly .0 (said .0 e) in (p, own, limit (p .stands .sound) .0 met),
+      λ p. said .1 (exactly .1 (p .0, (p .1, limit (p .0 .stands .sound) .1 (p .2)))),
+    )
+
+-- 11 exactly where they are not more, and some push or insert has no room, those before it in the batch counted.
+pub batch-no-room : (w : List ℕ) (t : ℕ) (operations : List ℕ)
+    → let s = decode base w in
+    let qs = operationsIn operations in
+    (batch base whetherSound w t operations .outcome .reply ≡ refused 11)
+    ↔ (BatchPremises base w t operations × All (HasNeither s) qs × (length (s .log) + length qs ≤ 256)
+    × SomeCrowded s qs)
+batch-no-room w t operations =
+    let s = decode base w in
+    let qs = operationsIn operations in
+    let said = leaving.refused-as (calling.batch t operations) w 11 refl in
+    let exactly = row-reason base whetherSound w t operations in
+    let limit = batches.log-limit-sound t w qs in
+    let rows = row-limit t s qs in (
+      λ e. let (p, (own, (room, met))) = exactly .0 (said .0 e) in
+          let few : 256 < length (s .log) + length qs → ⊥ = λ over. room (limit (p .stands .sound) .1 over) in
+          (p, own, omega (arith, few), rows .0 met),
+      λ p. said .1 (exactly .1 (
+        p .0,
+        (p .1, (λ a. omega (arith, p .2, limit (p .0 .stands .sound) .0 a), rows .1 (p .3))),
+      )),
+    )
 
 -- ---- Finish
 

@@ -3,6 +3,7 @@ use Prim.Native.Nat.{ℕ}
 use Prim.Native.Char.{code}
 use mathlib.Core.List.{List, [], _∷_, _++_}
 use lib.ListN.{take}
+use Rattle.operations.specs.Operations.{Answer}
 use Rattle.bitset.specs.Bitset.{members}
 use Rattle.protocol.specs.Replies.{Reply, ok, answered, wait, finished, committed, circle, cancelled, counted, refused}
 use Rattle.text.specs.Text.{ascii, decimal}
@@ -10,7 +11,7 @@ use Rattle.text.specs.Text.{ascii, decimal}
 -- The twin of contents has no letter: no script's line is answered with how many rows were counted.
 abbrev pub wordOf : Reply → List ℕ
 wordOf ok = ascii "ok"
-wordOf (answered reply) = ascii "answer"
+wordOf (answered answers) = ascii "answer"
 wordOf (wait owners count) = ascii "wait"
 wordOf finished = ascii "finished"
 wordOf (committed count) = ascii "committed"
@@ -19,11 +20,16 @@ wordOf (cancelled count) = ascii "cancelled"
 wordOf (counted rows) = ascii "counted"
 wordOf (refused reason) = ascii "refused"
 
+-- Of answers, code and value of each in turn.
+abbrev pub answerNumbers : List Answer → List ℕ
+answerNumbers [] = []
+answerNumbers (a ∷ answers) = a .code ∷ a .value ∷ answerNumbers answers
+
 -- The numbers behind the word: of a wait how many owners, then these, ascending (02, No. 1); those that committed stand
 -- at the front of the list.
 abbrev pub printedNumbers : Reply → List ℕ → List ℕ
 printedNumbers ok list = []
-printedNumbers (answered reply) list = reply .code ∷ reply .value ∷ []
+printedNumbers (answered answers) list = answerNumbers answers
 printedNumbers (wait owners count) list = count ∷ members owners
 printedNumbers finished list = []
 printedNumbers (committed count) list = take count list

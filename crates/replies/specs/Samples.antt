@@ -1,4 +1,5 @@
--- Replies as they are printed. Of a list, only as many are as the reply counts. The second wait is for 1, 4 and 63.
+-- Replies as they are printed. Of a list, only as many are as the reply counts. The third and fourth answers are those
+-- of a batch of none and of two; the second wait is for 1, 4 and 63.
 use Prim.Native.Nat.{ℕ}
 use Prim.Native.String.{String}
 use mathlib.Core.Path.{_≡_, refl}
@@ -14,8 +15,10 @@ Prints reply list text = printed reply list ≡ ascii text
 
 pub replies : Prints ok [] "ok"
     × Prints ok (1 ∷ 2 ∷ []) "ok"
-    × Prints (answered (answering 1 4_294_967_295)) [] "answer 1 4294967295"
-    × Prints (answered (answering 0 0)) [] "answer 0 0"
+    × Prints (answered (answering 1 4_294_967_295 ∷ [])) [] "answer 1 4294967295"
+    × Prints (answered (answering 0 0 ∷ [])) [] "answer 0 0"
+    × Prints (answered []) [] "answer"
+    × Prints (answered (answering 1 70 ∷ answering 0 0 ∷ [])) [] "answer 1 70 0 0"
     × Prints (wait 1 1) [] "wait 1 0"
     × Prints (wait 9_223_372_036_854_775_826 3) [] "wait 3 1 4 63"
     × Prints finished (0 ∷ 0 ∷ []) "finished"
@@ -25,4 +28,4 @@ pub replies : Prints ok [] "ok"
     × Prints (cancelled 2) (63 ∷ 10 ∷ 5 ∷ []) "cancelled 63 10"
     × Prints (refused 10) [] "refused 10"
 unfolding printed decimal decimalWithin members membersFrom has
-replies = (refl, refl, refl, refl, refl, refl, refl, refl, refl, refl, refl, refl)
+replies = (refl, refl, refl, refl, refl, refl, refl, refl, refl, refl, refl, refl, refl, refl)

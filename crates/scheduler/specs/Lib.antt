@@ -1,1 +1,2 @@
+pub mod Unanswered
 pub mod Laws

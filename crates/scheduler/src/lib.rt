@@ -1,4 +1,6 @@
-// The six calls (document 01, "Calls"), contents with its twin. None asks anything of its arguments.
+// The seven calls (document 01, "Calls", and 02), contents with its twin. None asks anything of its arguments.
+use operations::Answer;
+use protocol::Batched;
 use protocol::Reply;
 ghost use Prim.Native.Nat.{ℕ, _+_, _*_};
 ghost use mathlib.Core.Path.{_≡_};
@@ -10,7 +12,8 @@ ghost use Rattle.store.specs.Layout.{BookLong, base, encode, rowsStart};
 ghost use Rattle.store.specs.Decisions.{whetherSound};
 ghost use Rattle.protocol.specs.Replies.{served, outcome, counted};
 ghost use Rattle.protocol.specs.Calls as calls;
-ghost use Rattle.protocol.specs.ReplyOf.{replyOf};
+ghost use Rattle.protocol.specs.ReplyOf.{replyOf, batchedOf, Filled};
+ghost use Rattle.scheduler.specs.Unanswered.{unanswered as Unanswered};
 
 // Writes an empty book of these kinds.
 fn write_empty(book: &mut [u32], kinds: &[u8])
@@ -67,9 +70,40 @@ pub fn operate(
     if owners != 0 {
         return Reply::Wait(owners, bitset::size(owners));
     }
-    let answer = answers::answer(book, layout::wide(object), requested);
-    log::append(book, transaction, object, requested, answer);
+    let answer = batches::enter(book, transaction, object, requested);
     Reply::Answered(answer.code, answer.value)
+}
+
+// A batch's reply that has no answers.
+fn unanswered(reply: Reply) -> Batched
+    ensures { λ r. ⌜ r ≡ Unanswered reply ⌝ }
+{
+    Batched {
+        reply,
+        count: 0,
+        answers: [Answer { code: 0, value: 0 }; protocol::BATCH],
+    }
+}
+
+// Operations of one transaction, four words each, answered entirely or not at all.
+pub fn batch(book: &mut [u32], transaction: u32, operations: &[u32]) -> Batched
+    ensures served { λ r. ⌜ served (now (book .exit)) (outcome (batchedOf r) [] [])
+        ≡ calls.batch base whetherSound (now (book .entry)) transaction (now (operations .entry)) ⌝ }
+    ensures filled { λ r. ⌜ Filled r ⌝ }
+{
+    let reason = refusals::batch(book, transaction, operations);
+    if reason != protocol::ACCEPTED {
+        return unanswered(Reply::Refused(reason));
+    }
+    let owners = batches::owners(book, transaction, operations);
+    if owners != 0 {
+        return unanswered(Reply::Wait(owners, bitset::size(owners)));
+    }
+    Batched {
+        reply: Reply::Answers,
+        count: operations.len() / protocol::OPERATION_WORDS,
+        answers: batches::enter_each(book, transaction, operations),
+    }
 }
 
 pub fn finish(book: &mut [u32], transaction: u32, list: &mut [u8]) -> Reply

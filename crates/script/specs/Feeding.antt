@@ -2,41 +2,24 @@
 use Prim.Native.Nat.{ℕ, _+_, _-_, _≤_, _<_}
 use mathlib.Core.Path.{_≡_}
 use mathlib.Core.Logic.{_⊎_}
-use mathlib.Core.Option.{Option}
 use mathlib.Core.List.{List, [], _∷_, _++_}
 use lib.ListN.{length, take, drop}
-use Rattle.protocol.specs.Call.{Call}
-use Rattle.protocol.specs.ReplyOf.{replyOf}
-use Rattle.text.specs.Text.{ascii}
 use Rattle.text.specs.Fields.{Put}
-use Rattle.replies.specs.Printed.{printed}
-use Rattle.script.specs.Script.{LineServed, serving}
-use Rattle.script.specs.Sessions.{Session, session, Turn, taken}
+use Rattle.dispatch.specs.Replying.{mostPrinted}
+use Rattle.script.specs.Sessions.{lineKept, Session, session, Turn, taken}
 use Rattle.script.specs.declared.Progress.{Progress}
-use Rattle.script.specs.declared.Said.{Said}
-use Rattle.script.specs.declared.Said.the-variants.{Unread, Read}
-
--- What is said to a line, as it is printed. The list is lent to finish and cancel alone.
-abbrev pub saidText : Said → List ℕ → List ℕ
-saidText Unread list = ascii "unread"
-saidText (Read reply listed) list = printed (replyOf reply) (take listed list)
-
-abbrev pub listedBy : Said → ℕ
-listedBy Unread = 0
-listedBy (Read reply listed) = listed
-
--- A call was served.
-abbrev pub CallServed : Option Call → List ℕ → List ℕ → List ℕ → Said → Type 0
-CallServed call w book list said =
-    (record { book = book; text = saidText said list } ≡ serving call w) × (listedBy said ≤ 64)
-
--- A line was served, and its reply put at a place of a buffer.
-abbrev pub Replied : LineServed → List ℕ → List ℕ → ℕ → List ℕ → ℕ → Type 0
-Replied a book out at after end = (book ≡ a .book) × Put out at (a .text) after end
 
 -- A line or the input has ended, and what is to be printed was put at a place of a buffer.
 abbrev pub Turned : Turn → List ℕ → List ℕ → ℕ → List ℕ → ℕ → Type 0
 Turned t book out at after end = (book ≡ t .after .book) × Put out at (t .output) after end
+
+-- An array for a line, and how many bytes of it are kept there.
+abbrev pub KeptIn : List ℕ → ℕ → Type 0
+KeptIn line kept = (length line ≡ lineKept) × (kept ≤ lineKept)
+
+-- The same with a buffer that has room for a reply.
+abbrev pub Buffers : List ℕ → ℕ → List ℕ → Type 0
+Buffers line kept out = KeptIn line kept × (mostPrinted ≤ length out)
 
 -- The bytes from one place to another.
 abbrev pub chunk : List ℕ → ℕ → ℕ → List ℕ
@@ -44,7 +27,7 @@ chunk block from to = take (to - from) (drop from block)
 
 -- More of a line is kept. What the array holds behind that is free.
 abbrev pub Kept : List ℕ → List ℕ → List ℕ → ℕ → Type 0
-Kept line part after kept = (kept ≤ 178) × (take kept after ≡ take 178 (line ++ part)) × (length after ≡ 178)
+Kept line part after kept = KeptIn after kept × (take kept after ≡ take lineKept (line ++ part))
 
 -- A block was taken from one place to another, and what is to be printed for that put behind what was. How far it was
 -- taken is left to the code.
@@ -52,7 +35,7 @@ pub record Took (s : Session) (block : List ℕ) (from : Progress) (book line ou
     (to : Progress) : Type 0 where
   pub forward : from .at ≤ to .at
   pub within : to .at ≤ length block
-  pub few : to .kept ≤ 178
+  pub few : to .kept ≤ lineKept
   pub left : taken s (chunk block (from .at) (to .at)) .after ≡ session book (take (to .kept) line)
   pub put : Put out (from .written) (taken s (chunk block (from .at) (to .at)) .output) after (to .written)
   pub fits : to .written ≤ length out
@@ -62,7 +45,7 @@ begun kept = record { at = 0; kept = kept; written = 0 }
 
 -- All of a block was taken, or the buffer has less room than a reply may need.
 abbrev pub Stopped : List ℕ → List ℕ → Progress → Type 0
-Stopped block out p = (p .at ≡ length block) ⊎ (length out < p .written + 266)
+Stopped block out p = (p .at ≡ length block) ⊎ (length out < p .written + mostPrinted)
 
 -- The program, up to where it waits for input: from a session, with what is left of the block that it read last and the
 -- blocks that it reads after that; what it prints, and the session left.

@@ -1,5 +1,5 @@
 pub mod Reading
-pub mod Serving
+pub mod Closing
 pub mod Lines
 pub mod Traces
 pub mod Taking

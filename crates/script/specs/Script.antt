@@ -1,14 +1,11 @@
 -- Document 01, "Script program": what is printed for a whole input.
 use Prim.Native.Nat.{ℕ}
 use Prim.Native.Char.{code}
-use mathlib.Core.Option.{Option, none, some}
 use mathlib.Core.List.{List, [], _∷_, _++_, dropLast}
 use lib.ListN.{replicate}
 use Rattle.store.specs.Layout.{bookWords}
-use Rattle.protocol.specs.Call.{Call, desk}
-use Rattle.text.specs.Text.{ascii, split}
-use Rattle.lines.specs.Lines.{callIn}
-use Rattle.replies.specs.Printed.{printed}
+use Rattle.text.specs.Text.{split}
+use Rattle.dispatch.specs.Served.{lineServed}
 
 -- A line ends at a line feed or at the end of the input; nothing after the last line feed is no line.
 abbrev pub withoutEmptyLast : List (List ℕ) → List (List ℕ)
@@ -23,20 +20,6 @@ linesIn input = withoutEmptyLast (split (code "\n") input)
 -- The lines that have ended with a line feed: all pieces but what stands behind the last.
 abbrev pub endedLines : List ℕ → List (List ℕ)
 endedLines input = dropLast (split (code "\n") input)
-
--- The book after a line, and the reply to print.
-pub record LineServed : Type 0 where
-  pub book : List ℕ
-  pub text : List ℕ
-
-abbrev pub serving : Option Call → List ℕ → LineServed
-serving none w = record { book = w; text = ascii "unread" }
-serving (some call) w =
-    let s = desk call w in
-    record { book = s .book; text = printed (s .outcome .reply) (s .outcome .list) }
-
-unfoldable pub lineServed : List ℕ → List ℕ → LineServed
-lineServed w line = serving (callIn line) w
 
 -- The replies to lines, each on the book that the one before left.
 abbrev pub replies : List ℕ → List (List ℕ) → List (List ℕ)

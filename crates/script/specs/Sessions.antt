@@ -5,9 +5,14 @@ use mathlib.Core.Bool.{cond}
 use mathlib.Core.List.{List, [], _∷_, _++_}
 use lib.Dec.{eqb}
 use lib.ListN.{length, take}
-use Rattle.script.specs.Script.{zeros, lineServed}
+use Rattle.dispatch.specs.Served.{lineServed, ended}
+use Rattle.script.specs.Script.{zeros}
 
--- The book, and what was read of a line that has not ended: at most 178 bytes of it, since no call is longer than 177.
+-- How many bytes are kept of a line: no call is longer than 716.
+abbrev pub lineKept : ℕ
+lineKept = 717
+
+-- The book, and what was read of a line that has not ended, as far as it is kept.
 pub record Session : Type 0 where
   pub book : List ℕ
   pub line : List ℕ
@@ -32,14 +37,15 @@ printing text t = turn (t .after) (text ++ t .output)
 -- A line feed: the line is answered.
 abbrev pub lineEnded : Session → Turn
 lineEnded s =
-    turn (session (lineServed (s .book) (s .line) .book) []) (lineServed (s .book) (s .line) .text ++ (code "\n" ∷ []))
+    let a = ended (lineServed (s .book) (s .line)) in
+    turn (session (a .book) []) (a .text)
 
 -- What bytes do, one after the other.
 abbrev pub taken : Session → List ℕ → Turn
 taken s [] = turn s []
 taken s (b ∷ bytes) =
     cond (eqb b (code "\n")) (printing (lineEnded s .output) (taken (lineEnded s .after) bytes))
-    (taken (session (s .book) (take 178 (s .line ++ (b ∷ [])))) bytes)
+    (taken (session (s .book) (take lineKept (s .line ++ (b ∷ [])))) bytes)
 
 -- The input has ended, and with it a line that was begun.
 abbrev pub closing : Session → Turn

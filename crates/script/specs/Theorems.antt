@@ -4,6 +4,7 @@ use mathlib.Core.Path.{_≡_, refl, sym, ap, _∙_}
 use mathlib.Core.List.{List, [], _++_, append-nil, dropLast, flatten}
 use native.Mathlib.Omega.{arith}
 use lib.ListN.{length, take}
+use Rattle.dispatch.specs.Replying.{mostPrinted}
 use Rattle.script.specs.Script.{linesIn, endedLines, replies, asLines, zeros, script}
 use Rattle.script.specs.Sessions.{Session, Turn, opening, taken, closing, inBlocks}
 use Rattle.script.specs.Feeding.{Turned, Fed}
@@ -30,7 +31,8 @@ fed-at-once {blocks} fed = ap (λ (t : Turn). t .output) (sym (fed-taken fed)) �
 -- and where `end_input` is called at the end of the input, and the front of its buffer printed, all that was printed is
 -- the script's.
 pub runs : {blocks : List (List ℕ)} {printed : List ℕ} {left : Session} → Fed opening [] blocks printed left
-    → {book out after : List ℕ} {end : ℕ} → 266 ≤ length out → Turned (closing left) book out 0 after end × (end ≤ 266)
+    → {book out after : List ℕ} {end : ℕ} → mostPrinted ≤ length out
+    → Turned (closing left) book out 0 after end × (end ≤ mostPrinted)
     → printed ++ take end after ≡ script (flatten blocks)
 runs {blocks} {printed} fed room closed =
     ap (λ (l : List ℕ). printed ++ l) (front-put (closed .0 .1) (omega arith))

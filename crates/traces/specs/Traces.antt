@@ -8,7 +8,7 @@ use Rattle.store.specs.Layout.{BookLong}
 use Rattle.protocol.specs.Replies.{ok}
 use Rattle.protocol.specs.Call.{setUp, desk}
 use Rattle.history.specs.History.{trace}
-use Rattle.history.specs.Cases.{callsOf, wholeKinds, wholeCase, twiceKinds, twiceUsed}
+use Rattle.history.specs.Cases.{callsOf, wholeKinds, wholeCase, twiceKinds, twiceUsed, batchedKinds, batched}
 use Rattle.traces.specs.Laws.Computing.{unchecked, trace-computed}
 
 pub whole-case-trace : (w : List ℕ) → BookLong w
@@ -22,3 +22,9 @@ pub twice-used-trace : (w : List ℕ) → BookLong w
     × (trace desk (callsOf twiceUsed) (desk (setUp twiceKinds) w .book) ≡ twiceUsed)
 unfolding unchecked members membersFrom has
 twice-used-trace = trace-computed twiceKinds refl (callsOf twiceUsed)
+
+pub in-batches-trace : (w : List ℕ) → BookLong w
+    → (desk (setUp batchedKinds) w .outcome .reply ≡ ok)
+    × (trace desk (callsOf batched) (desk (setUp batchedKinds) w .book) ≡ batched)
+unfolding unchecked members membersFrom has
+in-batches-trace = trace-computed batchedKinds refl (callsOf batched)

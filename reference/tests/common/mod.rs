@@ -2,6 +2,7 @@
 
 #![allow(dead_code)] // each test file uses a part
 
+use std::fmt::Display;
 use std::io::Read;
 
 use reference::call::Call;
@@ -15,6 +16,8 @@ pub const LOG: usize = 2145;
 pub const LOG_LIMIT: usize = 256;
 pub const ROW_LIMIT: usize = 64;
 pub const LIST_LENGTH: usize = 64;
+/// Operations that a batch may have.
+pub const BATCH_LIMIT: usize = 16;
 /// The least key that is not reduced.
 pub const UNREDUCED: u32 = 16_777_216;
 /// What lists hold before calls, to see which bytes are written.
@@ -120,20 +123,27 @@ pub fn call_of(line: &str) -> Call {
         ("I", &[transaction, object, operation, key, value]) => {
             Call::Operate { transaction, object, operation, key, value }
         }
+        ("G", &[transaction, ref operations @ ..]) => Call::Batch { transaction, operations: operations.to_vec() },
         ("F", &[transaction]) => Call::Finish { transaction },
         ("C", &[transaction]) => Call::Cancel { transaction },
         _ => panic!("no call: {line}"),
     }
 }
 
+/// A line that begins as given and ends with numbers.
+pub fn with_numbers<T: Display>(line: &str, numbers: impl IntoIterator<Item = T>) -> String {
+    numbers.into_iter().fold(line.to_string(), |line, number| format!("{line} {number}"))
+}
+
 /// The script line of a call.
 pub fn line_of(call: &Call) -> String {
     match call {
-        Call::SetUp { kinds } => kinds.iter().fold("S".to_string(), |line, kind| format!("{line} {kind}")),
+        Call::SetUp { kinds } => with_numbers("S", kinds),
         Call::Begin { transaction } => format!("B {transaction}"),
         Call::Operate { transaction, object, operation, key, value } => {
             format!("I {transaction} {object} {operation} {key} {value}")
         }
+        Call::Batch { transaction, operations } => with_numbers(&format!("G {transaction}"), operations),
         Call::Finish { transaction } => format!("F {transaction}"),
         Call::Cancel { transaction } => format!("C {transaction}"),
     }
@@ -141,13 +151,14 @@ pub fn line_of(call: &Call) -> String {
 
 /// What the script program prints for an outcome.
 pub fn shown(outcome: Outcome, list: &[u8]) -> String {
-    let with_list = |word: &str, count| list[..count].iter().fold(word.to_string(), |line, t| format!("{line} {t}"));
+    let with_list = |word: &str, count| with_numbers(word, &list[..count]);
     let members = |set: u64| (0..64).filter(move |transaction| set >> transaction & 1 == 1);
     match outcome {
         Ok(Reply::Ok) => "ok".to_string(),
         Ok(Reply::Answer { code, value }) => format!("answer {code} {value}"),
-        Ok(Reply::Wait { owners, count }) => {
-            members(owners).fold(format!("wait {count}"), |line, owner| format!("{line} {owner}"))
+        Ok(Reply::Wait { owners, count }) => with_numbers(&format!("wait {count}"), members(owners)),
+        Ok(Reply::Answers(answers)) => {
+            with_numbers("answer", answers.as_slice().iter().flat_map(|answer| [answer.code, answer.value]))
         }
         Ok(Reply::Finished) => "finished".to_string(),
         Ok(Reply::Committed { count }) => with_list("committed", count),

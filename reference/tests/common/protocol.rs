@@ -7,7 +7,8 @@ use reference::rules::{commutes, recoverable};
 use reference::soundness::sound;
 
 use super::{
-    entry_word, kind_word, row_count_word, status_word, Entry, LIST_LENGTH, LOG_LIMIT, ROW_LIMIT, UNREDUCED, WORDS,
+    entry_word, kind_word, row_count_word, status_word, with_numbers, Entry, BATCH_LIMIT, LIST_LENGTH, LOG_LIMIT,
+    ROW_LIMIT, UNREDUCED, WORDS,
 };
 
 /// Pairs of transactions, the first of which depends on the second.
@@ -28,8 +29,15 @@ fn first_refusal(store: &[u32], call: &Call, list_length: usize) -> Option<u32> 
         Call::Begin { transaction } if transaction > 63 => Some(5),
         Call::Begin { transaction } => (status(store, transaction) != 0).then_some(6),
         Call::Finish { transaction } | Call::Cancel { transaction } => not_active(store, transaction),
-        Call::Operate { transaction, object, operation, .. } => {
-            not_active(store, transaction).or_else(|| no_operation(store, object, operation))
+        Call::Operate { transaction, object, operation, key, value } => {
+            not_active(store, transaction).or_else(|| no_batch(store, &[object, operation, key, value]))
+        }
+        Call::Batch { transaction, .. } if transaction > 63 => Some(5),
+        Call::Batch { ref operations, .. } if operations.len() > 4 * BATCH_LIMIT || operations.len() % 4 > 0 => {
+            Some(12)
+        }
+        Call::Batch { transaction, ref operations } => {
+            not_active(store, transaction).or_else(|| no_batch(store, operations))
         }
     }
 }
@@ -38,17 +46,27 @@ fn first_refusal(store: &[u32], call: &Call, list_length: usize) -> Option<u32> 
 fn reply(store: &[u32], call: &Call) -> String {
     match *call {
         Call::SetUp { .. } | Call::Begin { .. } => "ok".to_string(),
-        Call::Operate { transaction, object, operation, key, .. } => {
-            let request = (operation, if operation < 4 { key } else { key % UNREDUCED });
-            let owners = owners_in_the_way(store, transaction, object, request);
-            if owners.is_empty() {
-                "answer".to_string()
-            } else {
-                with_list(&format!("wait {}", owners.len()), &owners)
-            }
+        Call::Operate { transaction, object, operation, key, value } => {
+            answer_or_wait(store, transaction, &[object, operation, key, value])
         }
+        Call::Batch { transaction, ref operations } => answer_or_wait(store, transaction, operations),
         Call::Finish { transaction } => finish(store, transaction),
-        Call::Cancel { transaction } => with_list("cancelled", &commits_after(store, transaction)),
+        Call::Cancel { transaction } => with_numbers("cancelled", commits_after(store, transaction)),
+    }
+}
+
+/// A batch waits if any of its operations would, owners joined.
+fn answer_or_wait(store: &[u32], transaction: u32, operations: &[u32]) -> String {
+    let mut owners = BTreeSet::new();
+    for words in operations.chunks(4) {
+        let (object, operation, key) = (words[0], words[1], words[2]);
+        let request = (operation, if operation < 4 { key } else { key % UNREDUCED });
+        owners.extend(owners_in_the_way(store, transaction, object, request));
+    }
+    if owners.is_empty() {
+        "answer".to_string()
+    } else {
+        with_numbers(&format!("wait {}", owners.len()), owners)
     }
 }
 
@@ -64,16 +82,12 @@ fn finish(store: &[u32], transaction: u32) -> String {
     let dependencies = dependencies(store);
     let commits = commits_after(store, transaction);
     if on_circle(&dependencies, transaction, &pseudo_committed(store)) {
-        with_list("circle", &commits)
+        with_numbers("circle", commits)
     } else if dependencies.iter().any(|&(dependent, _)| dependent == transaction) {
         "finished".to_string()
     } else {
-        with_list("committed", &[vec![transaction], commits].concat())
+        with_numbers("committed", [vec![transaction], commits].concat())
     }
-}
-
-fn with_list(word: &str, list: &[u32]) -> String {
-    list.iter().fold(word.to_string(), |line, transaction| format!("{line} {transaction}"))
 }
 
 fn not_active(store: &[u32], transaction: u32) -> Option<u32> {
@@ -84,23 +98,32 @@ fn not_active(store: &[u32], transaction: u32) -> Option<u32> {
     }
 }
 
+fn no_batch(store: &[u32], operations: &[u32]) -> Option<u32> {
+    let own = operations.chunks(4).find_map(|words| no_operation(store, words[0], words[1]));
+    let log_full = || (entries(store).count() + operations.len() / 4 > LOG_LIMIT).then_some(10);
+    own.or_else(log_full).or_else(|| rows_full(store, operations).then_some(11))
+}
+
 fn no_operation(store: &[u32], object: u32, operation: u32) -> Option<u32> {
     let kind = if object > 15 { 0 } else { store[kind_word(object as usize)] };
-    let (operations, adding) = match kind {
+    let operations = match kind {
         0 => return Some(8),
-        1 => (1..=3, 1),
-        2 => (4..=6, 4),
-        _ => (7..=11, 7),
+        1 => 1..=3,
+        2 => 4..=6,
+        _ => 7..=11,
     };
-    let logged = entries_on(store, object).iter().filter(|entry| entry[2] == adding).count();
-    let added = store[row_count_word(object as usize)] as usize + logged;
-    if !operations.contains(&operation) {
-        Some(9)
-    } else if entries(store).count() == LOG_LIMIT {
-        Some(10)
-    } else {
-        (operation == adding && added >= ROW_LIMIT).then_some(11)
-    }
+    (!operations.contains(&operation)).then_some(9)
+}
+
+/// Whether some push or insert finds the rows of its object, the logged pushes and inserts and those before it at 64.
+fn rows_full(store: &[u32], operations: &[u32]) -> bool {
+    let adds = |operation: u32| [1, 4, 7].contains(&operation);
+    operations.chunks(4).enumerate().filter(|(_, words)| adds(words[1])).any(|(index, words)| {
+        let rows = store[row_count_word(words[0] as usize)] as usize;
+        let logged = entries_on(store, words[0]).iter().filter(|entry| adds(entry[2])).count();
+        let before = operations.chunks(4).take(index).filter(|before| before[0] == words[0] && adds(before[1])).count();
+        rows + logged + before >= ROW_LIMIT
+    })
 }
 
 fn status(store: &[u32], transaction: u32) -> u32 {

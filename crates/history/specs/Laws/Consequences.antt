@@ -24,14 +24,14 @@ use Rattle.protocol.specs.Terms.{Among, inOrder}
 use Rattle.protocol.specs.Theorems.{refused-exactly, refused-untouched, commits-exactly, commits-carry, kinds-stay}
 use Rattle.protocol.specs.Theorems.{sound-kept}
 use Rattle.protocol.specs.Laws.Ending.{entries-fit}
-use Rattle.protocol.specs.Laws.Leaving.{contents-served}
+use Rattle.protocol.specs.Laws.Leaving.{contents-served, no-reason}
 use Rattle.protocol.specs.Laws.Protocol.{clash}
 use Rattle.protocol.specs.Laws.Reasons.{of-length, found-sound, end-accepted, contents-accepts}
 use Rattle.history.specs.History.{History, serial, Contents, emptyObjects, reached, committedContents, answers}
 use Rattle.history.specs.History.{given, written, Unaltered, ofEach}
 use Rattle.history.specs.Laws.Serving.{reached-rows, answers-both, answers-given}
 use Rattle.history.specs.Laws.Linking.{HasKind, FitsKind, answered-fits}
-use Rattle.history.specs.Laws.Steps.{InStep, no-reason}
+use Rattle.history.specs.Laws.Steps.{InStep}
 
 -- ---- Contents
 

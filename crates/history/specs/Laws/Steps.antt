@@ -9,14 +9,14 @@ use borrow.Author.Tests.{eqb-false}
 use lib.Dec.{eqb}
 use lib.ListN.{length, take, List·getD-map}
 use lib.Seq.{take-append-seam}
-use Rattle.operations.specs.Operations.{Kind, All, reduceKey}
+use Rattle.operations.specs.Operations.{Kind, Answer, All, reduceKey}
 use Rattle.operations.specs.Laws.Cases.{split, same}
 use Rattle.store.specs.Store.{Status, absent, active, pseudoCommitted, Object, Logged, Store, statusOf, Live, Active}
 use Rattle.store.specs.Store.{pseudoCommittedCount}
 use Rattle.store.specs.Layout.{decode, encode, word, Representable, base}
 use Rattle.store.specs.Soundness.{Unsettled, Sound}
 use Rattle.store.specs.Decisions.{whetherSound}
-use Rattle.store.specs.Steps.{appended, withStatus}
+use Rattle.store.specs.Steps.{withLog, withStatus}
 use Rattle.store.specs.Theorems.{representable, decoded}
 use Rattle.store.specs.Laws.Objects.{kind-named}
 use Rattle.store.specs.Laws.Any.{any-append}
@@ -24,19 +24,22 @@ use Rattle.store.specs.Laws.Changes.{status-own, status-other, representable-st
 use Rattle.store.specs.Laws.Statuses.{absent-inactive, absent-unranked, active-live, live-within}
 use Rattle.protocol.specs.Replies.{ok, refused, Served}
 use Rattle.protocol.specs.Ending.{ended, commit, settledAll}
-use Rattle.protocol.specs.Calls.{unsound, empty, finishActive, setUpReason}
-use Rattle.protocol.specs.Call.{Call, setUp, begin, operate, finish, cancel, contents, desk, reasonOf}
+use Rattle.protocol.specs.Calls.{operationsIn, unsound, ownReasons, first, empty, finishActive, setUpReason}
+use Rattle.protocol.specs.Call.{Call, setUp, begin, operate, batch, finish, cancel, contents, answeredOperations}
+use Rattle.protocol.specs.Call.{desk, reasonOf}
 use Rattle.protocol.specs.Terms.{Among}
 use Rattle.protocol.specs.Theorems.{refused-exactly, refused-untouched, set-up-leaves, set-up-sound, begin-leaves}
-use Rattle.protocol.specs.Theorems.{contents-leaves, operate-waits-exactly, operate-either, operate-replayed}
+use Rattle.protocol.specs.Theorems.{contents-leaves, operate-one, batch-waits-exactly, batch-either, batch-replayed}
 use Rattle.protocol.specs.Theorems.{sound-kept}
 use Rattle.protocol.specs.Laws.Keeping as keeping
 use Rattle.protocol.specs.Laws.Ending.{ended-representable, ended-unsettled, commit-representable, commit-unsettled}
 use Rattle.protocol.specs.Laws.Settling.{settled-kept}
 use Rattle.protocol.specs.Laws.Protocol.{clash, finish-by, finishing, cancelling}
-use Rattle.protocol.specs.Laws.Reasons.{found-sound, set-up-accepted, begin-accepted, end-accepted}
-use Rattle.history.specs.History.{Event, trace, bookAfter, SetUpRefused, History, newHistory, begun, struck}
-use Rattle.history.specs.History.{committedNext, committedInOrder, noted, notedAll, history}
+use Rattle.protocol.specs.Laws.Leaving.{refused-or-accepted, no-reason}
+use Rattle.protocol.specs.Laws.Reasons.{first-other, limiting, each-numbers, found-sound, set-up-accepted}
+use Rattle.protocol.specs.Laws.Reasons.{begin-accepted, end-accepted}
+use Rattle.history.specs.History.{Event, trace, bookAfter, SetUpRefused, History, newHistory, begun, putLast}
+use Rattle.history.specs.History.{entered, struck, committedNext, committedInOrder, noted, notedAll, history}
 use Rattle.history.specs.Laws.Linking.{HasKind, Linked, linked-struck, linked-committed, linked-settled}
 
 -- A sound book, linked with the history.
@@ -45,16 +48,6 @@ pub record InStep (kinds : List ℕ) (h : History) (w : List ℕ) : Type 0 where
   pub linked : Linked kinds h (decode base w)
 
 -- ---- Refusals
-
-refused-or-accepted : (call : Call) (w : List ℕ)
-    → ((n : ℕ) × (desk call w .outcome .reply ≡ refused n)) ⊎ (reasonOf call w ≡ 0)
-refused-or-accepted call w =
-    same (reasonOf call w) 0 inr
-    (λ applies. inl (reasonOf call w, refused-exactly call w (reasonOf call w) .1 (refl, applies)))
-
-pub no-reason : (call : Call) (w : List ℕ)
-    → ((n : ℕ) → desk call w .outcome .reply ≡ refused n → ⊥) → reasonOf call w ≡ 0
-no-reason call w serves = ⊎-elim (λ r. absurd (serves (r .0) (r .1))) (λ e. e) (refused-or-accepted call w)
 
 -- The first reason that applies is not number n: neither a later one nor this one, which has another number or does not
 -- apply.
@@ -77,6 +70,13 @@ never-unsound call w sound e = eqb-false (reasonOf call w) 4 (never call) (refus
     never (setUp kinds) = search another-number
     never (begin t) = search (another-number, not-applying, found)
     never (operate t o number k v) = search (another-number, not-applying, found) depth 10
+    never (batch t operations) =
+        let s = decode base w in
+        let qs = operationsIn operations in
+        let other : eqb (first (ownReasons s qs ++ limiting base t s qs)) 4 ≡ false =
+        first-other 4 (ownReasons s qs ++ limiting base t s qs)
+        (each-numbers base t (λ number. eqb number 4 ≡ false) refl refl refl refl s qs) refl in
+        search (another-number, not-applying, found, other) depth 10
     never (finish t list) = search (another-number, not-applying, found)
     never (cancel t list) = search (another-number, not-applying, found)
     never (contents o) = search (another-number, not-applying, found)
@@ -179,13 +179,13 @@ module _ (kinds : List ℕ) (h : History) (s : Store) (linked : Linked kinds h s
         λ live. linked .live u .1 (⊎-elim (λ l. l) (λ e. subst (Live s) e alive) (besides u .0 live)),
       ))
 
-  appended-linked : (l : Logged) → Linked kinds
-      (record { committed = h .committed; live = h .live; answered = h .answered ++ (l ∷ []) }) (appended l s)
-  appended-linked l =
+  put-last-linked : (operations : List Logged)
+      → Linked kinds (putLast operations h) (withLog (s .log ++ operations) s)
+  put-last-linked operations =
       record {
         kind = linked .kind;
         live = linked .live;
-        log = ap (λ (log : List Logged). log ++ (l ∷ [])) (linked .log);
+        log = ap (λ (log : List Logged). log ++ operations) (linked .log);
         fits = linked .fits;
         answered = linked .answered;
         rows = linked .rows;
@@ -221,13 +221,16 @@ module _ (kinds : List ℕ) (h : History) (w : List ℕ) (f : InStep kinds h w) 
       rw (left .0, left .1) (begun-linked kinds h s (f .linked) t
       (omega (arith, begin-accepted base whetherSound w t e .below, fits .statuses)))
 
-  operate-links : (t o number k v : ℕ) → reasonOf (operate t o number k v) w ≡ 0
-      → Links (operate t o number k v) (desk (operate t o number k v) w)
-  operate-links t o number k v e =
-      ⊎-elim (λ a. rw (a .1, operate-replayed w t o number k v e (a .0) (a .1) .1)
-      (appended-linked kinds h s (f .linked) _))
-      (λ b. rw (b .2, operate-waits-exactly w t o number k v e (b .0) (b .1) .1 (b .2)) (f .linked))
-      (operate-either w t o number k v e)
+  -- Of a call that is a batch of one or of several, where an answer puts their operations last.
+  batch-links : (call : Call) (t : ℕ) (operations : List ℕ)
+      → ((given : List Answer)
+      → entered reduceKey call given h ≡ putLast (answeredOperations reduceKey t (operationsIn operations) given) h)
+      → reasonOf (batch t operations) w ≡ 0 → Links call (desk (batch t operations) w)
+  batch-links call t operations enters e =
+      ⊎-elim (λ a. rw (a .1, enters (a .0), batch-replayed w t operations e (a .0) (a .1) .1)
+      (put-last-linked kinds h s (f .linked) _))
+      (λ b. rw (b .2, batch-waits-exactly w t operations e (b .0) (b .1) .1 (b .2)) (f .linked))
+      (batch-either w t operations e)
 
   ended-links : (t : ℕ) (rest : List ℕ) → LinkedOnceSettled kinds (struck t h) (ended t s) rest
   ended-links t =
@@ -261,7 +264,10 @@ module _ (kinds : List ℕ) (h : History) (w : List ℕ) (f : InStep kinds h w) 
       → Links call (desk call w)
   links (setUp kinds) refusedSetUp e = let r = refusedSetUp kinds refl in refused-links (setUp kinds) (r .0) (r .1)
   links (begin t) refusedSetUp e = begin-links t e
-  links (operate t o number k v) refusedSetUp e = operate-links t o number k v e
+  links (operate t o number k v) refusedSetUp e =
+      subst (Links (operate t o number k v)) (sym (operate-one w t o number k v))
+      (batch-links (operate t o number k v) t (o ∷ number ∷ k ∷ v ∷ []) (λ given. refl) e)
+  links (batch t operations) refusedSetUp e = batch-links (batch t operations) t operations (λ given. refl) e
   links (finish t list) refusedSetUp e = finish-links t list e
   links (cancel t list) refusedSetUp e = cancel-links t list e
   links (contents o) refusedSetUp e = contents-links o e

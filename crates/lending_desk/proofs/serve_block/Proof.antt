@@ -12,7 +12,7 @@ use Rattle.lending_desk.proofs.serve_block.Tie as tie
 
 abbrev Inv-loop : tie.InvT-loop
 Inv-loop book₀ line₀ kept₀ block out₀ at₀ book line kept out at =
-    (at ≤ length block) × (kept ≤ 178) × (length book ≡ length book₀) × (length line ≡ length line₀)
+    (at ≤ length block) × (kept ≤ 717) × (length book ≡ length book₀) × (length line ≡ length line₀)
     × (length out ≡ length out₀)
 
 abbrev μ-loop : tie.MeasureT-loop

@@ -34,10 +34,10 @@ returns c =
       search needs,
     )
 
-room : (c : tie.Else2 Inv-loop μ-loop) → c .before .before .before .before .loop .count < 16
+room : (c : tie.Else2 Inv-loop μ-loop) → c .before .before .before .before .loop .count < 65
 room c =
     let loop = c .before .before .before .before .loop in
-    omega (arith, loop .inv .room, eqb-false (loop .count) 16 (c .if2 .left))
+    omega (arith, loop .inv .room, eqb-false (loop .count) 65 (c .if2 .left))
 
 returns-2 : tie.Need-returns-2 Inv-loop μ-loop
 returns-2 c =

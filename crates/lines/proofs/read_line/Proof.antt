@@ -1,28 +1,27 @@
 -- `lines::read_line`: by the letter and the numbers behind it.
-use mathlib.Core.Path.{_≡_, ap, _∙_}
+use mathlib.Core.Path.{_≡_, _∙_}
 use borrow.Author.Needs.{needs}
 use borrow.Author.Tests.{not-true, not-false}
 use lib.ListN.{getD, take}
 use Rattle.lines.specs.Lines.{asked, callIn}
-use Rattle.lines.specs.Coded.{callOf}
-use Rattle.lines.specs.Laws.Calls.{set-up-asked}
+use Rattle.lines.specs.Laws.Calls.{unread-says, set-up-asked, batch-asked}
 use Rattle.lines.specs.Laws.Fields.{no-letter, arguments-wrong, arguments-right}
 use Rattle.lines.proofs.read_line.Statement.{statement}
 use Rattle.lines.proofs.read_line.Tie as tie
 
 returns : tie.Need-returns
 returns c =
-    ap (λ q. callOf q (c .unread .result .kinds)) (c .unread .ensures)
-    ∙ no-letter (c .before .before .before .args .line .now) (c .before .if1 .taken)
+    unread-says (c .unread .result) (c .unread .ensures)
+    (no-letter (c .before .before .before .args .line .now) (c .before .if1 .taken))
 
 returns-2 : tie.Need-returns-2
 returns-2 c =
     let given = c .before .before .before in
     let some-letter = given .before .before in
-    ap (λ q. callOf q (c .unread2 .result .kinds)) (c .unread2 .ensures)
-    ∙ arguments-wrong (some-letter .before .before .args .line .now) (given .read-arguments .result)
+    unread-says (c .unread2 .result) (c .unread2 .ensures)
+    (arguments-wrong (some-letter .before .before .args .line .now) (given .read-arguments .result)
     (given .read-arguments .ensures .0)
-    (some-letter .if1 .left) (not-true _ (c .before .if2 .taken))
+    (some-letter .if1 .left) (not-true _ (c .before .if2 .taken)))
 
 read : (c : tie.Else2) → let given = c .before .before in
     let line = given .before .before .before .before .args .line .now in
@@ -37,12 +36,23 @@ read c =
 
 returns-3 : tie.Need-returns-3
 returns-3 c =
-    let given = c .before .before .before .before .before .read-arguments .result in
-    c .set-up .ensures ∙ set-up-asked _ (take (given .count) (given .values)) (c .before .if3 .taken)
-    ∙ read (c .before .before .before)
+    let given = c .before .before .before .before .before .read-arguments .result in (
+      c .set-up .ensures .0 ∙ set-up-asked _ (take (given .count) (given .values)) (c .before .if3 .taken)
+          ∙ read (c .before .before .before),
+      c .set-up .ensures .1,
+    )
 
 returns-4 : tie.Need-returns-4
-returns-4 c = c .call-of .ensures _ ∙ read (c .before .before .before)
+returns-4 c =
+    let given = c .before .before .before .before .before .before .read-arguments .result in (
+      c .batch .ensures .0 ∙ batch-asked _ (take (given .count) (given .values)) (c .before .if4 .taken)
+          ∙ read (c .before .before .before .before),
+      c .batch .ensures .1,
+    )
+
+returns-5 : tie.Need-returns-5
+returns-5 c =
+    (c .call-of .ensures .0 _ _ ∙ read (c .before .before .before .before), c .call-of .ensures .1)
 
 pub read-line-spec : {M : Type 1} → statement M
 read-line-spec =
@@ -57,4 +67,6 @@ read-line-spec =
     (λ c κs. search needs)
     returns-3
     (λ c κs. search needs)
-    returns-4)
+    returns-4
+    (λ c κs. search needs)
+    returns-5)

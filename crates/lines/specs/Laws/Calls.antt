@@ -4,19 +4,32 @@ use native.Mathlib.Numerals.{add-one}
 use native.Mathlib.Omega.{arith}
 use mathlib.Core.Path.{_≡_, refl, sym, ap, ap₂, _∙_}
 use mathlib.Core.Bool.{Bool, true, false, cond}
-use mathlib.Core.Option.{none, some}
+use mathlib.Core.Option.{Option, none, some}
 use mathlib.Core.List.{List, [], _∷_, _++_}
-use borrow.Author.Tests.{eq-eqb, ne-eqb, leb-false, le-leb, lt-ltb, le-ltb}
+use borrow.Author.Tests.{eq-eqb, ne-eqb, leb-false, le-leb, lt-leb, lt-ltb, le-ltb}
 use lib.Dec.{eqb, leb}
 use lib.ListN.{length, getD, take, drop, set, replicate, drop-of-length-le}
 use lib.Seq.{append-snoc, drop-cons, getD-take, length-take-le, set-at, take-suc}
 use Rattle.operations.specs.Laws.Cases.{same}
 use Rattle.protocol.specs.Calls.{someAbove}
 use Rattle.protocol.specs.Call.{Call, setUp, begin, operate, finish, cancel}
-use Rattle.lines.specs.Lines.{lent, withCount, setUpOf, asked}
+use Rattle.lines.specs.Lines.{lent, withCount, setUpOf, batchOf, asked}
+use Rattle.lines.specs.Coded.{callOf, wordsOf}
+use Rattle.lines.specs.declared.Line.{Line}
+use Rattle.lines.specs.declared.Call.the-variants.{Unread}
+use Rattle.lines.specs.Laws.Batches.{batch-long}
 
 abbrev pub zeros : ℕ → List ℕ
 zeros n = replicate n 0
+
+-- ---- No call
+
+pub unread-says : (line : Line) → line .call ≡ Unread → {call : Option Call} → none ≡ call
+    → (callOf (line .call) (line .kinds) (line .operations) ≡ call) × (wordsOf (line .call) ≤ 64)
+unread-says line told same = (
+  ap (λ q. callOf q (line .kinds) (line .operations)) told ∙ same,
+  omega (arith, ap wordsOf told),
+)
 
 -- ---- Set up
 
@@ -27,6 +40,11 @@ module _ (kinds : List ℕ) (few : length kinds ≤ 16) where
   set-up-refused : someAbove 255 kinds ≡ true → setUpOf kinds ≡ none
   set-up-refused e = rw (le-leb (length kinds) 16 few, e)
 
+pub kinds-too-many : (count : ℕ) (values : List ℕ) → 16 < count → count ≤ length values
+    → none ≡ setUpOf (take count values)
+kinds-too-many count values more within =
+    sym (rw (lt-leb (length (take count values)) 16 (omega (arith, length-take-le count values within))))
+
 -- How far kinds were written, over a list of zeros.
 pub record KindsRead (count : ℕ) (values kinds : List ℕ) (i : ℕ) : Type 0 where
   pub within : i ≤ count
@@ -36,7 +54,7 @@ pub record KindsRead (count : ℕ) (values kinds : List ℕ) (i : ℕ) : Type 0 
 pub writing-starts : (count : ℕ) (values : List ℕ) → KindsRead count values (zeros 16) 0
 writing-starts count values = record { within = omega arith; front = refl; left = refl }
 
-module _ (count : ℕ) (values kinds : List ℕ) (i : ℕ) (few : count ≤ 16) (long : length values ≡ 16)
+module _ (count : ℕ) (values kinds : List ℕ) (i : ℕ) (few : count ≤ 16) (long : length values ≡ 65)
     (w : KindsRead count values kinds i) where
   taken-length : length (take count values) ≡ count
   taken-length = length-take-le count values (omega arith)
@@ -84,21 +102,30 @@ pub same-both : {A : Type 0} (b : Bool) (x : A) → cond b x x ≡ x
 same-both true x = refl
 same-both false x = refl
 
--- No call takes more than 16 numbers.
-pub too-many : (letter : ℕ) (numbers : List ℕ) → leb (length numbers) 16 ≡ false → asked letter numbers ≡ none
+-- No call takes more than 65 numbers.
+pub too-many : (letter : ℕ) (numbers : List ℕ) → leb (length numbers) 65 ≡ false → asked letter numbers ≡ none
 too-many letter numbers e =
-    let more = leb-false (length numbers) 16 e in
-    simp (e, ne-eqb (length numbers) 1 (omega arith), ne-eqb (length numbers) 5 (omega arith), same-both)
+    let more = leb-false (length numbers) 65 e in
+    simp (
+      lt-leb (length numbers) 16 (omega arith),
+      ne-eqb (length numbers) 1 (omega arith),
+      ne-eqb (length numbers) 5 (omega arith),
+      batch-long numbers more,
+      same-both,
+    )
 
 pub set-up-asked : (letter : ℕ) (numbers : List ℕ) → letter ≡ 83 → setUpOf numbers ≡ asked letter numbers
 set-up-asked letter numbers e = rw e
+
+pub batch-asked : (letter : ℕ) (numbers : List ℕ) → letter ≡ 71 → batchOf numbers ≡ asked letter numbers
+batch-asked letter numbers e = rw e
 
 taking-right : (n : ℕ) (arguments : List ℕ) (call : Call) → length arguments ≡ n
     → withCount n arguments call ≡ some call
 taking-right n arguments call e = rw (eq-eqb (length arguments) n e)
 
-module _ (values : List ℕ) (long : length values ≡ 16) where
-  front-length : (n : ℕ) → n ≤ 16 → length (take n values) ≡ n
+module _ (values : List ℕ) (long : length values ≡ 65) where
+  front-length : (n : ℕ) → n ≤ 65 → length (take n values) ≡ n
   front-length n l = length-take-le n values (omega arith)
 
   pub operate-asked : (letter count : ℕ) → letter ≡ 73 → count ≡ 5
@@ -131,7 +158,8 @@ module _ (values : List ℕ) (long : length values ≡ 16) where
     pub cancel-asked : letter ≡ 67 → some (cancel (getD values 0 0) lent) ≡ asked letter (take count values)
     cancel-asked e = rw (e, one) (one-taken (λ t. cancel t lent))
 
-  module _ (letter count : ℕ) (few : count ≤ 16) (other : letter ≡ 83 → ⊥) where
+  module _ (letter count : ℕ) (few : count ≤ 65) (no-set-up : letter ≡ 83 → ⊥)
+      (no-batch : letter ≡ 71 → ⊥) where
     other-length : (n : ℕ) → (count ≡ n → ⊥) → eqb (length (take count values)) n ≡ false
     other-length n differs = ne-eqb _ n (λ e. differs (sym (front-length count few) ∙ e))
 
@@ -139,18 +167,26 @@ module _ (values : List ℕ) (long : length values ≡ 16) where
     count-wrong five one =
         same letter 73
         (λ (e : letter ≡ 73). simp (
-          ne-eqb letter 83 other,
+          ne-eqb letter 83 no-set-up,
+          ne-eqb letter 71 no-batch,
           other-length 1 one,
           other-length 5 (λ f. five (e, f)),
           same-both,
         ))
-        (λ (e : letter ≡ 73 → ⊥). simp (ne-eqb letter 83 other, other-length 1 one, ne-eqb letter 73 e, same-both))
+        (λ (e : letter ≡ 73 → ⊥). simp (
+          ne-eqb letter 83 no-set-up,
+          ne-eqb letter 71 no-batch,
+          ne-eqb letter 73 e,
+          other-length 1 one,
+          same-both,
+        ))
 
     pub letter-wrong : count ≡ 1 → (letter ≡ 66 → ⊥) → (letter ≡ 70 → ⊥) → (letter ≡ 67 → ⊥)
         → none ≡ asked letter (take count values)
     letter-wrong one b f k =
         simp (
-          ne-eqb letter 83 other,
+          ne-eqb letter 83 no-set-up,
+          ne-eqb letter 71 no-batch,
           ne-eqb letter 66 b,
           ne-eqb letter 70 f,
           ne-eqb letter 67 k,

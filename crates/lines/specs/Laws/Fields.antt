@@ -19,15 +19,15 @@ use Rattle.lines.specs.Laws.Calls.{too-many}
 abbrev pub space : ℕ
 space = code " "
 
-pub kept : (numbers : List ℕ) → length numbers ≤ 16 → few (some numbers) ≡ some numbers
-kept numbers l = rw (le-leb (length numbers) 16 l)
+pub kept : (numbers : List ℕ) → length numbers ≤ 65 → few (some numbers) ≡ some numbers
+kept numbers l = rw (le-leb (length numbers) 65 l)
 
 few-asked : (letter : ℕ) (numbers : Option (List ℕ)) → askedWith letter (few numbers) ≡ askedWith letter numbers
 few-asked letter none = refl
 few-asked letter (some numbers) =
-    by-test (leb (length numbers) 16)
-    (λ (e : leb (length numbers) 16 ≡ true). ap (askedWith letter) (kept numbers (leb-true _ _ e)))
-    (λ (e : leb (length numbers) 16 ≡ false).
+    by-test (leb (length numbers) 65)
+    (λ (e : leb (length numbers) 65 ≡ true). ap (askedWith letter) (kept numbers (leb-true _ _ e)))
+    (λ (e : leb (length numbers) 65 ≡ false).
     let f : few (some numbers) ≡ none = rw e in
     ap (askedWith letter) f ∙ sym (too-many letter numbers e))
 

@@ -59,7 +59,7 @@ numbers-spread (field ∷ fields) numbers e = first (numberIn field) (numbersIn 
         let all : numbers ≡ n ∷ rest = cc in
         rw all (omega (arith, number-short field n p, others rest refl))
 
-pub long-none : (pieces : List (List ℕ)) → 178 < spread pieces → callOfFields pieces ≡ none
+pub long-none : (pieces : List (List ℕ)) → 717 < spread pieces → callOfFields pieces ≡ none
 long-none [] long = refl
 long-none ([] ∷ fields) long = refl
 long-none ((letter ∷ b ∷ word) ∷ fields) long = refl
@@ -68,4 +68,4 @@ long-none ((letter ∷ []) ∷ fields) long = with-numbers (numbersIn fields) re
     with-numbers : (r : Option (List ℕ)) → numbersIn fields ≡ r → askedWith letter r ≡ none
     with-numbers none e = refl
     with-numbers (some numbers) e =
-        too-many letter numbers (lt-leb (length numbers) 16 (omega (arith, numbers-spread fields numbers e)))
+        too-many letter numbers (lt-leb (length numbers) 65 (omega (arith, numbers-spread fields numbers e)))

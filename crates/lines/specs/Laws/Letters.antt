@@ -4,8 +4,8 @@ use mathlib.Core.Path.{_≡_, refl, sym, ap, _∙_}
 use mathlib.Core.Bool.{Bool, true, false, cond, false≢true}
 use mathlib.Core.Option.{Option, none, some}
 use mathlib.Core.List.{List, [], _∷_}
-use Rattle.protocol.specs.Call.{Call, setUp, begin, operate, finish, cancel, contents}
-use Rattle.lines.specs.Lines.{numbersIn, askedWith, callOfFields}
+use Rattle.protocol.specs.Call.{Call, setUp, begin, operate, batch, finish, cancel, contents}
+use Rattle.lines.specs.Lines.{numbersIn, batchOf, askedWith, callOfFields}
 use Rattle.lines.specs.Laws.Calls.{same-both}
 
 abbrev isContents : Option Call → Bool
@@ -13,6 +13,7 @@ isContents none = false
 isContents (some (setUp kinds)) = false
 isContents (some (begin t)) = false
 isContents (some (operate t o number k v)) = false
+isContents (some (batch t operations)) = false
 isContents (some (finish t list)) = false
 isContents (some (cancel t list)) = false
 isContents (some (contents o)) = true
@@ -22,9 +23,13 @@ either : (b : Bool) (x y : Option Call) → isContents (cond b x y) ≡ cond b (
 either true x y = refl
 either false x y = refl
 
+batch-other : (numbers : List ℕ) → isContents (batchOf numbers) ≡ false
+batch-other [] = refl
+batch-other (t ∷ operations) = simp (either, same-both)
+
 asked-other : (letter : ℕ) (numbers : Option (List ℕ)) → isContents (askedWith letter numbers) ≡ false
 asked-other letter none = refl
-asked-other letter (some numbers) = simp (either, same-both)
+asked-other letter (some numbers) = simp (either, batch-other, same-both)
 
 call-other : (fields : List (List ℕ)) → isContents (callOfFields fields) ≡ false
 call-other [] = refl

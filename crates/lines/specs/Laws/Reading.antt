@@ -33,13 +33,13 @@ before-more : (numbers : List ℕ) (n : ℕ) (more : Option (List ℕ))
 before-more numbers n none = refl
 before-more numbers n (some more) = ap some (sym (append-snoc numbers n more))
 
-few-before : (numbers : List ℕ) → length numbers ≡ 16 → (n : Option ℕ) (more : Option (List ℕ))
+few-before : (numbers : List ℕ) → length numbers ≡ 65 → (n : Option ℕ) (more : Option (List ℕ))
     → few (before numbers (withFirst n more)) ≡ none
 few-before numbers e none more = refl
 few-before numbers e (some n) none = refl
 few-before numbers e (some n) (some more) =
-    let l : 16 < length (numbers ++ (n ∷ more)) = simp length-append (omega arith) in
-    rw (lt-leb (length (numbers ++ (n ∷ more))) 16 l)
+    let l : 65 < length (numbers ++ (n ∷ more)) = simp length-append (omega arith) in
+    rw (lt-leb (length (numbers ++ (n ∷ more))) 65 l)
 
 behind-separated : (rest : List ℕ) → Separated space rest → numbersIn (further space rest) ≡ behind rest
 behind-separated [] e = refl
@@ -56,12 +56,12 @@ field-first text =
 
 -- How far the numbers of a line were read.
 pub record Reading (line values : List ℕ) (count at : ℕ) : Type 0 where
-  pub room : count ≤ 16
-  pub long : length values ≡ 16
+  pub room : count ≤ 65
+  pub long : length values ≡ 65
   pub within : at ≤ length line
   pub whole : reading line values count at ≡ few (behind (drop 1 line))
 
-pub reading-starts : (line : List ℕ) → 1 ≤ length line → Reading line (replicate 16 0) 0 1
+pub reading-starts : (line : List ℕ) → 1 ≤ length line → Reading line (replicate 65 0) 0 1
 reading-starts line l =
     record { room = omega arith; long = refl; within = l; whole = ap few (before-none (behind (drop 1 line))) }
 
@@ -91,7 +91,7 @@ module _ (line values : List ℕ) (count at : ℕ) (r : Reading line values coun
           behind (drop at line) ≡ withFirst (numberIn (take k text)) (behind (drop k text))
       behind-space = ap behind at-byte ∙ rw (eq-eqb (getD line at 0) space spaced) (field-first (drop (at + 1) line))
 
-      pub too-many-read : count ≡ 16 → none ≡ few (behind (drop 1 line))
+      pub too-many-read : count ≡ 65 → none ≡ few (behind (drop 1 line))
       too-many-read e =
           let text = drop (at + 1) line in
           let k = indexOf space text in
@@ -116,7 +116,7 @@ module _ (line values : List ℕ) (count at : ℕ) (r : Reading line values coun
         pub no-number : none ≡ numberIn field → none ≡ few (behind (drop 1 line))
         no-number e = left none (behind-field ∙ ap (λ n. withFirst n (behind (drop end line))) (sym e))
 
-        pub reading-goes-on : (value : ℕ) → some value ≡ numberIn field → count < 16 → end ≤ length line
+        pub reading-goes-on : (value : ℕ) → some value ≡ numberIn field → count < 65 → end ≤ length line
             → Reading line (set values count value) (count + 1) end
         reading-goes-on value e l within =
             let numbers = behind (drop end line) in

@@ -46,6 +46,10 @@ module _ {A : Type 0} where
   all-append P [] m p q = q
   all-append P (x ∷ l) m p q = (p .0, all-append P l m (p .1) q)
 
+  pub all-parts : (P : A → Type 0) (l m : List A) → All P (l ++ m) → All P l × All P m
+  all-parts P [] m p = (tt, p)
+  all-parts P (x ∷ l) m p = let (first, second) = all-parts P l m (p .1) in ((p .0, first), second)
+
   pub all-filter : {P Q : A → Type 0} {picked : A → Bool} → ((x : A) → P x → picked x ≡ true → Q x) → (l : List A)
       → All P l → All Q (filter picked l)
   all-filter f [] p = tt

@@ -65,7 +65,7 @@ in-order-append (t ∷ ts) us l =
     ap (λ (m : Entries). only (one t) l ++ m) (in-order-append ts us l)
     ∙ sym (append-assoc (only (one t) l) (inOrder ts l) (inOrder us l))
 
-after-append : (X : ObjectType) (l m : Log X) (s : X .State)
+pub after-append : (X : ObjectType) (l m : Log X) (s : X .State)
     → after (X .next) (l ++ m) s ≡ after (X .next) m (after (X .next) l s)
 after-append X [] m s = refl
 after-append X (e ∷ l) m s = after-append X l m (X .next (e .operation) s)

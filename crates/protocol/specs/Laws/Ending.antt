@@ -59,7 +59,7 @@ module _ (picked : ℕ → Bool) where
         (λ (k : picked (e .transaction) ≡ false). rw k rest)
 
   -- Additions are those of the picked and those of the others.
-  additions-parted : (l : Entries) → additions (only picked l) + additions (only (others picked) l) ≡ additions l
+  pub additions-parted : (l : Entries) → additions (only picked l) + additions (only (others picked) l) ≡ additions l
   additions-parted [] = refl
   additions-parted (e ∷ l) =
       let whole = additions-first e l in
@@ -77,7 +77,7 @@ module _ (reduce : ℕ → ℕ) (kind : Kind) where
   after-formed (e ∷ l) rs f v =
       after-formed l (next (e .operation) rs) (f .1) (valid-next reduce kind (e .operation) rs (f .0) v)
 
-  after-grows : (l : List (Entry Operation Answer)) (rs : List Row)
+  pub after-grows : (l : List (Entry Operation Answer)) (rs : List Row)
       → length (after next l rs) ≤ length rs + additions l
   after-grows [] rs = omega arith
   after-grows (e ∷ l) rs =

@@ -166,13 +166,13 @@ all-recovered x l n =
     (λ e p other. p (λ q. other (sym q))) l
     (none-owned (x .transaction) (x .operation) l .0 n)
 
-additions-last : (l : List (Entry Operation Answer)) (x : Entry Operation Answer)
+pub additions-last : (l : List (Entry Operation Answer)) (x : Entry Operation Answer)
     → additions (l ++ (x ∷ [])) ≡ additions l + additions (x ∷ [])
 additions-last [] x = omega arith
 additions-last (e ∷ l) x = omega (arith, additions-first e (l ++ (x ∷ [])), additions-first e l, additions-last l x)
 
 -- On its own object an entry put last is the last, on others nothing changes.
-on-last : (P : List (Entry Operation Answer) → Type 0) (o : ℕ) (log : List Logged) (x : Logged)
+pub on-last : (P : List (Entry Operation Answer) → Type 0) (o : ℕ) (log : List Logged) (x : Logged)
     → (x .object ≡ o → P (onObject o log ++ (x .entry ∷ []))) → P (onObject o log) → P (onObject o (log ++ (x ∷ [])))
 on-last P o log x own other =
     let only : List (Entry Operation Answer) = x .entry ∷ [] in

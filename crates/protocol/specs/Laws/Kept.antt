@@ -1,32 +1,32 @@
 -- Every call leaves a sound book, where it was sound before.
 use Prim.Native.Nat.{ℕ, zero, suc}
 use mathlib.Core.Path.{_≡_, refl, sym, subst}
-use mathlib.Core.List.{List, []}
+use mathlib.Core.List.{List, [], _∷_}
 use lib.ListN.{length}
-use Rattle.operations.specs.Operations.{Operation}
-use Rattle.store.specs.Store.{active, pseudoCommitted, Store, objectOf, Active, pseudoCommittedCount, onObject}
+use Rattle.store.specs.Store.{active, pseudoCommitted, Store, objectOf, Active, pseudoCommittedCount}
 use Rattle.store.specs.Layout.{encode, decode, joined, rowWords, Representable, base}
 use Rattle.store.specs.Soundness.{Unsettled, SoundStore, Sound}
 use Rattle.store.specs.Steps.{withStatus}
 use Rattle.store.specs.Theorems.{representable, decoded, packed}
-use Rattle.store.specs.Laws.Changes.{representable-status, representable-appended}
+use Rattle.store.specs.Laws.Changes.{representable-status}
 use Rattle.protocol.specs.Replies.{ok, counted, cancelled, outcome, Served, served}
 use Rattle.protocol.specs.Ending.{ended, commit, settledAll}
-use Rattle.protocol.specs.Calls.{unless, empty, owners, request, answerTo, entered, respond, concluded}
-use Rattle.protocol.specs.Calls.{finishActive, setUpReason, setUp, beginReason, begin, operateReason, operate}
-use Rattle.protocol.specs.Calls.{endReason, finish, cancel, contentsReason, contents}
+use Rattle.protocol.specs.Calls.{LentOperation, operationsIn, unless, empty, runAll, awaited, respond, concluded}
+use Rattle.protocol.specs.Calls.{finishActive, setUpReason, setUp, beginReason, begin, batchReason, batch}
+use Rattle.protocol.specs.Calls.{operate, endReason, finish, cancel, contentsReason, contents}
 use Rattle.protocol.specs.Call as calling
-use Rattle.protocol.specs.Terms.{OperateAccepted}
+use Rattle.protocol.specs.Terms.{BatchAccepted}
 use Rattle.protocol.specs.Laws.Ending.{ended-representable, ended-unsettled, commit-representable}
 use Rattle.protocol.specs.Laws.Ending.{commit-unsettled}
 use Rattle.protocol.specs.Laws.Settling.{settled-kept}
-use Rattle.protocol.specs.Laws.Keeping.{emptied-sound, begun-sound, entered-sound, pseudo-committed-sound}
+use Rattle.protocol.specs.Laws.Keeping.{emptied-sound, begun-sound, pseudo-committed-sound}
+use Rattle.protocol.specs.Laws.Batches.{run-all-kept}
 use Rattle.protocol.specs.Laws.Protocol.{finish-by}
-use Rattle.protocol.specs.Laws.Reasons.{request-reduced, set-up-accepted, begin-accepted, operate-accepted}
+use Rattle.protocol.specs.Laws.Reasons.{set-up-accepted, begin-accepted, batch-accepted}
 use Rattle.protocol.specs.Laws.Reasons.{end-accepted}
 
 -- A sound store, written as words.
-encoded-sound : (s : Store) → Representable base s → SoundStore base s → Sound base (encode base s)
+pub encoded-sound : (s : Store) → Representable base s → SoundStore base s → Sound base (encode base s)
 encoded-sound s r h = record { packed = packed s r; store = subst (SoundStore base) (sym (decoded s r)) h }
 
 -- What holds of the book holds still, if it does where no reason applies.
@@ -64,32 +64,27 @@ module _ (w : List ℕ) (h : Sound base w) where
         encoded-sound (withStatus t active s) (representable-status s fits t active)
         (begun-sound s t (h .store) (begin-accepted base whetherSound w t e .new)))
 
-    module _ (t o number k v : ℕ) where
-      abbrev requested : Operation
-      requested = request base number k v
+    module _ (t : ℕ) (operations : List ℕ) where
+      abbrev qs : List LentOperation
+      qs = operationsIn operations
 
-      abbrev awaited : ℕ
-      awaited = owners t requested (onObject o (s .log))
-
-      responded : (n : ℕ) → awaited ≡ n → OperateAccepted base w t o number k v
-          → Sound base (respond base w t o requested n .book)
+      responded : (n : ℕ) → awaited base t s qs ≡ n → BatchAccepted base w t operations
+          → Sound base (respond base w t qs n .book)
       responded (suc n) e a = h
       responded zero e a =
-          encoded-sound (entered t o requested s)
-          (representable-appended s fits
-          (record {
-            object = o;
-            entry = record { transaction = t; operation = requested; answer = answerTo requested s o };
-          })
-          (a .entries))
-          (entered-sound s t o requested (h .store) (a .active) (a .kind) (request-reduced number k v) (a .room) e)
+          let (sound, fit) = run-all-kept t s qs (h .store, fits) (a .active) (a .each) e in
+          encoded-sound (runAll base t qs s) fit sound
 
-      operate-kept : Sound base (operate base whetherSound w t o number k v .book)
-      unfolding operate
-      operate-kept =
-          unless-kept (Sound base) (operateReason base whetherSound w t o number k v) w []
-          (respond base w t o requested awaited) h
-          (λ e. responded awaited refl (operate-accepted base whetherSound w t o number k v e))
+      batch-kept : Sound base (batch base whetherSound w t operations .book)
+      unfolding batch
+      batch-kept =
+          unless-kept (Sound base) (batchReason base whetherSound w t operations) w []
+          (respond base w t qs (awaited base t s qs)) h
+          (λ e. responded (awaited base t s qs) refl (batch-accepted base whetherSound w t operations e))
+
+    operate-kept : (t o number k v : ℕ) → Sound base (operate base whetherSound w t o number k v .book)
+    unfolding operate
+    operate-kept t o number k v = batch-kept t (o ∷ number ∷ k ∷ v ∷ [])
 
     contents-kept : (o : ℕ) → Sound base (contents base whetherSound w o .book)
     unfolding contents
@@ -138,6 +133,7 @@ pub sound-kept : (whetherSound : (w : List ℕ) → Dec (Sound base w)) (call : 
 sound-kept whetherSound (calling.setUp kinds) w h = set-up-kept w h kinds
 sound-kept whetherSound (calling.begin t) w h = begin-kept w h whetherSound t
 sound-kept whetherSound (calling.operate t o number k v) w h = operate-kept w h whetherSound t o number k v
+sound-kept whetherSound (calling.batch t operations) w h = batch-kept w h whetherSound t operations
 sound-kept whetherSound (calling.finish t list) w h = finish-kept w h whetherSound t list
 sound-kept whetherSound (calling.cancel t list) w h = cancel-kept w h whetherSound t list
 sound-kept whetherSound (calling.contents o) w h = contents-kept w h whetherSound o

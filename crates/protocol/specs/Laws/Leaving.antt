@@ -1,13 +1,16 @@
 -- What a refused call leaves, and what set up, begin and contents leave where no reason applies.
 use Prim.Native.Nat.{ℕ, zero, suc, _+_, _-_, _*_, _<_}
 use mathlib.Core.Path.{_≡_, refl, sym, ap, _∙_, subst}
-use mathlib.Core.Logic.{_↔_}
-use mathlib.Core.List.{List, []}
+use mathlib.Core.Bool.{false}
+use mathlib.Core.Logic.{_↔_, _⊎_, inl, inr, ⊎-elim}
+use mathlib.Core.List.{List, [], _∷_}
 use native.Mathlib.Omega.{arith}
+use borrow.Author.Tests.{eqb-false}
+use lib.Dec.{eqb}
 use lib.ListN.{length, set, take, drop}
-use Rattle.operations.specs.Operations.{Row, Operation}
+use Rattle.operations.specs.Operations.{Row}
 use Rattle.operations.specs.Laws.Cases.{same}
-use Rattle.store.specs.Store.{active, Store, objectOf, onObject}
+use Rattle.store.specs.Store.{active, Store, objectOf}
 use Rattle.store.specs.Layout.{encode, decode, objectStart, joined, rowWords, Representable, base}
 use Rattle.store.specs.Decisions.{whetherSound}
 use Rattle.store.specs.Steps.{withStatus}
@@ -16,8 +19,9 @@ use Rattle.store.specs.Laws.Reading.{kind-below}
 use Rattle.store.specs.Laws.Rows.{rows-counted, rows-part}
 use Rattle.store.specs.Laws.Writing.{status-put}
 use Rattle.protocol.specs.Replies.{Reply, ok, counted, refused, outcome, Served, served}
-use Rattle.protocol.specs.Calls.{unless, empty, request, owners, respond, finishActive, setUpReason, setUp}
-use Rattle.protocol.specs.Calls.{beginReason, begin, operate, finish, cancel, contentsReason, contents}
+use Rattle.protocol.specs.Calls.{LentOperation, operationsIn, unless, empty, awaited, respond, finishActive}
+use Rattle.protocol.specs.Calls.{setUpReason, setUp, beginReason, begin, batchReason, batch, operate, finish}
+use Rattle.protocol.specs.Calls.{cancel, contentsReason, contents}
 use Rattle.protocol.specs.Call as calling
 use Rattle.protocol.specs.Call.{Call, desk, reasonOf, listOf}
 use Rattle.protocol.specs.Laws.Reasons.{unless-refused, unless-accepted, begin-accepted, contents-accepted}
@@ -35,10 +39,17 @@ pub record Guarded (reason : ℕ) (w list : List ℕ) (r : Served) : Type 0 wher
   guarded : r ≡ unless reason w list otherwise
   serves : Serves (otherwise .outcome .reply)
 
-responds : (w : List ℕ) (t o : ℕ) (requested : Operation) (awaited : ℕ)
-    → Serves (respond base w t o requested awaited .outcome .reply)
-responds w t o requested zero n e = clash cc
-responds w t o requested (suc awaited) n e = clash cc
+responds : (w : List ℕ) (t : ℕ) (qs : List LentOperation) (awaited : ℕ)
+    → Serves (respond base w t qs awaited .outcome .reply)
+responds w t qs zero n e = clash cc
+responds w t qs (suc awaited) n e = clash cc
+
+batch-guarded : (w : List ℕ) (t : ℕ) (operations : List ℕ)
+    → Guarded (batchReason base whetherSound w t operations) w [] (batch base whetherSound w t operations)
+unfolding batch
+batch-guarded w t operations =
+    let qs = operationsIn operations in
+    record { otherwise = _; guarded = refl; serves = responds w t qs (awaited base t (decode base w) qs) }
 
 finishes : (s : Store) (t : ℕ) (list : List ℕ) → Serves (finishActive base s t list .outcome .reply)
 finishes s t list =
@@ -49,13 +60,8 @@ pub guard : (call : Call) (w : List ℕ) → Guarded (reasonOf call w) w (listOf
 unfolding setUp begin operate finish cancel contents
 guard (calling.setUp kinds) w = record { otherwise = _; guarded = refl; serves = λ n e. clash cc }
 guard (calling.begin t) w = record { otherwise = _; guarded = refl; serves = λ n e. clash cc }
-guard (calling.operate t o number k v) w =
-    let requested = request base number k v in
-    record {
-      otherwise = _;
-      guarded = refl;
-      serves = responds w t o requested (owners t requested (onObject o (decode base w .log)));
-    }
+guard (calling.operate t o number k v) w = batch-guarded w t (o ∷ number ∷ k ∷ v ∷ [])
+guard (calling.batch t operations) w = batch-guarded w t operations
 guard (calling.finish t list) w = record { otherwise = _; guarded = refl; serves = finishes (decode base w) t list }
 guard (calling.cancel t list) w = record { otherwise = _; guarded = refl; serves = λ n e. clash cc }
 guard (calling.contents o) w = record { otherwise = _; guarded = refl; serves = λ n e. clash cc }
@@ -84,6 +90,27 @@ module _ (reason : ℕ) (w list : List ℕ) (r : Served) (g : Guarded reason w l
         ap (λ (x : Served). x .outcome .list) so,
         ap (λ (x : Served). x .outcome .rows) so,
       )
+
+pub refused-as : (call : Call) (w : List ℕ) (n : ℕ) → eqb n 0 ≡ false
+    → (desk call w .outcome .reply ≡ refused n) ↔ (reasonOf call w ≡ n)
+refused-as call w n positive =
+    let said = refused-by (reasonOf call w) w (listOf call) (desk call w) (guard call w) n in
+    (λ e. said .0 e .0, λ e. said .1 (e, eqb-false n 0 positive))
+
+pub refused-or-accepted : (call : Call) (w : List ℕ)
+    → ((n : ℕ) × (desk call w .outcome .reply ≡ refused n)) ⊎ (reasonOf call w ≡ 0)
+refused-or-accepted call w =
+    same (reasonOf call w) 0 inr
+    (λ applies. inl (
+      reasonOf call w,
+      refused-by (reasonOf call w) w (listOf call) (desk call w) (guard call w)
+          (reasonOf call w) .1 (refl, applies),
+    ))
+
+-- No reason applies to a call that is not refused.
+pub no-reason : (call : Call) (w : List ℕ)
+    → ((n : ℕ) → desk call w .outcome .reply ≡ refused n → ⊥) → reasonOf call w ≡ 0
+no-reason call w serves = ⊎-elim (λ r. absurd (serves (r .0) (r .1))) (λ e. e) (refused-or-accepted call w)
 
 -- ---- Set up, begin and contents, where no reason applies
 

@@ -2,12 +2,12 @@
 use Prim.Native.Nat.{ℕ, zero, suc, _+_, _^_, _≤_, _<_}
 use mathlib.Core.Path.{_≡_, sym, ap, _∙_}
 use mathlib.Core.Bool.{true, false, true≢false}
-use mathlib.Core.Logic.{_↔_, inl, inr, ⊎-elim}
+use mathlib.Core.Logic.{_↔_, inl, inr, ⊎-elim, Iff·trans}
 use native.Mathlib.Omega.{arith}
 use Rattle.operations.specs.Operations.{All}
 use Rattle.operations.specs.Laws.Cases.{split, same, all-map}
-use Rattle.bitset.specs.Bitset.{has, In, membersFrom, members}
-use Rattle.bitset.specs.Laws.{member-below}
+use Rattle.bitset.specs.Bitset.{has, In, Holds, membersFrom, members}
+use Rattle.bitset.specs.Laws.{member-below, below-64}
 use Rattle.protocol.specs.Terms.{Among, Ascends}
 
 module _ (s : ℕ) where
@@ -39,7 +39,7 @@ module _ (s : ℕ) where
       ))
 
   -- Exactly the members are listed,
-  pub listed : s < 2 ^ 64 → (u : ℕ) → Among u (members s) ↔ In s u
+  listed : s < 2 ^ 64 → (u : ℕ) → Among u (members s) ↔ In s u
   unfolding members
   listed few u = (
     λ a. listed-from 64 0 u .0 a .2,
@@ -57,6 +57,13 @@ module _ (s : ℕ) where
       (λ (b : has s h ≡ false). rw b (all, ascends))
 
   -- ascending.
-  pub ascend : Ascends (members s)
+  ascend : Ascends (members s)
   unfolding members
   ascend = ascend-from 64 0 .1
+
+-- A set whose members are such, all below 64, has 64 bits, and they are listed so.
+pub listed-as : (P : ℕ → Type 0) (s : ℕ) → Holds s P → ((u : ℕ) → P u → u < 64)
+    → (s < 2 ^ 64) × ((u : ℕ) → Among u (members s) ↔ P u) × Ascends (members s)
+listed-as P s holds below =
+    let few = below-64 s (λ u m. below u (holds u .0 m)) in
+    (few, λ u. Iff·trans (listed s few u) (holds u), ascend s)

@@ -1,16 +1,15 @@
 -- What a call that is not refused replies, and on whom a transaction depends afterwards.
-use Prim.Native.Nat.{ℕ, zero, suc, _+_, _^_, _≤_, _<_}
-use mathlib.Core.Path.{_≡_, refl, sym, ap, _∙_, subst, subst⁻¹}
+use Prim.Native.Nat.{ℕ, zero, suc, _+_, _≤_, _<_}
+use mathlib.Core.Path.{_≡_, refl, sym, ap, _∙_, subst}
 use mathlib.Core.Bool.{false, false≢true, decide, decide-iff}
 use mathlib.Core.Logic.{_↔_, _⊎_, inl, inr, ⊎-elim, Iff·trans}
-use mathlib.Core.List.{List, []}
+use mathlib.Core.List.{List, [], _∷_, _++_}
 use native.Mathlib.Omega.{arith}
 use lib.ListN.{length, getD}
 use Rattle.operations.specs.Operations.{Operation, Answer}
 use Rattle.operations.specs.PairRules.{commutes}
-use Rattle.operations.specs.Laws.Cases.{all-map}
 use Rattle.bitset.specs.Bitset.{size}
-use Rattle.store.specs.Store.{pseudoCommitted, Logged, Live, Store, PseudoCommitted, pseudoCommittedCount, onObject}
+use Rattle.store.specs.Store.{pseudoCommitted, Logged, Store, PseudoCommitted, pseudoCommittedCount, onObject}
 use Rattle.store.specs.Dependency.{Any, Follows, Conflict, DependsOn, Ready, Way, Leads, OnCycle}
 use Rattle.store.specs.Layout.{decode, encode, Representable, base, word, entryStart, entryWords}
 use Rattle.store.specs.Decisions.{whetherReady, whetherOnCycle, whetherSound}
@@ -21,7 +20,6 @@ use Rattle.store.specs.Laws.Edges.{depends-appended}
 use Rattle.store.specs.Laws.Writing.{log-counted, entry-put, put-count, put-entry, put-other, put-length}
 use Rattle.store.specs.Laws.Graph.{depends-on-some}
 use Rattle.store.specs.Laws.Any.{any-some, any-map}
-use Rattle.store.specs.Laws.Reading.{live-below}
 use Rattle.store.specs.Laws.Deciding.{decided}
 use Rattle.store.specs.Laws.Lists.{PairBelow, follows-some, follows-of, tabulate-getD}
 use Rattle.protocol.specs.Replies.{Reply, answered, wait, finished, committed, circle, cancelled, outcome, Served}
@@ -29,23 +27,23 @@ use Rattle.protocol.specs.Replies.{served}
 use Rattle.protocol.specs.Ending.{ended, commit, committedFirst, settledAll}
 use Rattle.protocol.specs.Terms.{Places}
 use Rattle.protocol.specs.Laws.Detours.{joined}
-use Rattle.protocol.specs.Laws.Waiting.{owners-below}
 use Rattle.protocol.specs.Laws.Reasons.{unless-accepted, operate-accepted, end-accepted}
-use Rattle.protocol.specs.Calls.{unless, owners, request, answerTo, respond, finishActive, operateReason}
-use Rattle.protocol.specs.Calls.{operate, endReason, finish, cancel, concluded}
+use Rattle.protocol.specs.Calls.{LentOperation, lentOperation, operationsIn, unless, owners, request, requested}
+use Rattle.protocol.specs.Calls.{answerTo, answersTo, awaited, respond, finishActive, batchReason, batch}
+use Rattle.protocol.specs.Calls.{operateReason, operate, endReason, finish, cancel, concluded}
 
 -- Two constructors are not the same.
 pub clash : {A : Type 0} → _≡_ {A = ℕ} 0 1 → A
 clash e = absurd (omega arith)
 
--- ---- Operate: answered or told to wait
+-- ---- Operate and batch: answered or told to wait
 
-module _ (w : List ℕ) (t o : ℕ) (requested : Operation) where
+module _ (w : List ℕ) (t : ℕ) (qs : List LentOperation) where
   abbrev said : ℕ → Reply
-  said awaited = respond base w t o requested awaited .outcome .reply
+  said awaited = respond base w t qs awaited .outcome .reply
 
-  pub answered-none : (awaited : ℕ) → ((a : Answer) × (said awaited ≡ answered a)) ↔ (awaited ≡ 0)
-  answered-none zero = (λ p. refl, λ e. (answerTo requested (decode base w) o, refl))
+  pub answered-none : (awaited : ℕ) → ((given : List Answer) × (said awaited ≡ answered given)) ↔ (awaited ≡ 0)
+  answered-none zero = (λ p. refl, λ e. (answersTo base t qs (decode base w), refl))
   answered-none (suc n) = (λ p. let e = p .1 in clash cc, λ e. absurd (omega arith))
 
   pub waits-some : (set count awaited : ℕ)
@@ -56,35 +54,64 @@ module _ (w : List ℕ) (t o : ℕ) (requested : Operation) where
     λ p. let same = p .0 in let counted = p .2 in cc,
   )
 
+  pub told-to-wait : (awaited : ℕ) → (awaited ≡ 0 → ⊥) → (set count : ℕ) × (said awaited ≡ wait set count)
+  told-to-wait zero some = absurd (some refl)
+  told-to-wait (suc n) some = (suc n, size (suc n), refl)
+
   pub waits-unchanged : (set count awaited : ℕ) → said awaited ≡ wait set count
-      → respond base w t o requested awaited .book ≡ w
+      → respond base w t qs awaited .book ≡ w
   waits-unchanged set count zero e = clash cc
   waits-unchanged set count (suc n) e = refl
 
   pub either-reply : (awaited : ℕ)
-      → ((a : Answer) × (said awaited ≡ answered a)) ⊎ ((set count : ℕ) × (said awaited ≡ wait set count))
-  either-reply zero = inl (answerTo requested (decode base w) o, refl)
+      → ((given : List Answer) × (said awaited ≡ answered given)) ⊎ ((set count : ℕ) × (said awaited ≡ wait set count))
+  either-reply zero = inl (answersTo base t qs (decode base w), refl)
   either-reply (suc n) = inr (suc n, size (suc n), refl)
+
+-- One operation has one answer.
+module _ (w : List ℕ) (t : ℕ) (q : LentOperation) where
+  abbrev AnsweredOnce : ℕ → Type 0
+  AnsweredOnce barring = (a : Answer) × (said w t (q ∷ []) barring ≡ answered (a ∷ []))
+
+  pub answered-once : (barring : ℕ) → AnsweredOnce barring ↔ (barring ≡ 0)
+  answered-once zero = (λ p. refl, λ e. (answerTo (requested base q) (decode base w) (q .object), refl))
+  answered-once (suc n) = (λ p. let e = p .1 in clash cc, λ e. absurd (omega arith))
+
+  pub either-once : (barring : ℕ)
+      → AnsweredOnce barring ⊎ ((set count : ℕ) × (said w t (q ∷ []) barring ≡ wait set count))
+  either-once zero = inl (answerTo (requested base q) (decode base w) (q .object), refl)
+  either-once (suc n) = inr (suc n, size (suc n), refl)
 
 -- Where nobody forces it to wait, it is answered or refused.
 pub never-waits : (w : List ℕ) (t o number k v : ℕ)
     → owners t (request base number k v) (onObject o (decode base w .log)) ≡ 0
     → (set count : ℕ) → operate base whetherSound w t o number k v .outcome .reply ≡ wait set count → ⊥
-unfolding operate
+unfolding operate batch
 never-waits w t o number k v none set count said =
     by (operateReason base whetherSound w t o number k v)
     (subst (λ (awaited : ℕ). unless (operateReason base whetherSound w t o number k v) w []
-    (respond base w t o (request base number k v) awaited) .outcome .reply ≡ wait set count) none said)
+    (respond base w t (lentOperation o number k v ∷ []) awaited) .outcome .reply ≡ wait set count) none said)
   where
     by : (reason : ℕ)
-        → unless reason w [] (respond base w t o (request base number k v) 0) .outcome .reply ≡ wait set count → ⊥
+        → unless reason w [] (respond base w t (lentOperation o number k v ∷ []) 0) .outcome .reply ≡ wait set count
+        → ⊥
     by zero e = clash cc
     by (suc reason) e = clash cc
+
+-- An accepted batch is answered or told to wait.
+pub batch-responded : (w : List ℕ) (t : ℕ) (operations : List ℕ) → batchReason base whetherSound w t operations ≡ 0
+    → let qs = operationsIn operations in
+    batch base whetherSound w t operations ≡ respond base w t qs (awaited base t (decode base w) qs)
+unfolding batch
+batch-responded w t operations =
+    let qs = operationsIn operations in
+    unless-accepted (batchReason base whetherSound w t operations) w []
+    (respond base w t qs (awaited base t (decode base w) qs))
 
 -- ---- Operate: ordered behind another
 
 -- The entry is b's, on the object, and does not commute with the request.
-abbrev Behind : ℕ → Operation → ℕ → Logged → Type 0
+abbrev pub Behind : ℕ → Operation → ℕ → Logged → Type 0
 Behind o requested b l =
     (l .entry .transaction ≡ b) × (l .object ≡ o) × (commutes requested (l .entry .operation) ≡ false)
 
@@ -105,6 +132,17 @@ behind x b last log = (
         (λ l h. (sym (p .0), h .0, sym (h .1), h .2)) log (p .2),
   ),
 )
+
+-- So it orders its transaction behind their owners, and no other behind anyone.
+pub ordered-last : (x b : ℕ) (last : Logged) (log : List Logged)
+    → DependsOn (log ++ (last ∷ [])) x b
+    ↔ (DependsOn log x b
+    ⊎ ((x ≡ last .entry .transaction) × (x ≡ b → ⊥) × Any (Behind (last .object) (last .entry .operation) b) log))
+ordered-last x b last log =
+    Iff·trans (depends-appended x b last log) (
+      ⊎-elim inl (λ p. inr (behind x b last log .0 p)),
+      ⊎-elim inl (λ p. inr (behind x b last log .1 p)),
+    )
 
 -- An entry and a later one that conflict stand at two places of the log.
 pub conflict-places : (d : Logged) (log : List Logged) (a b : ℕ) → Follows (Conflict a b) log ↔ Places d log a b
@@ -138,50 +176,42 @@ module _ (w : List ℕ) (t o number k v : ℕ) (accepted : operateReason base wh
   abbrev s : Store
   s = decode base w
 
-  abbrev requested : Operation
-  requested = request base number k v
+  abbrev asked : Operation
+  asked = request base number k v
 
   abbrev operated : Served
   operated = operate base whetherSound w t o number k v
 
+  abbrev only : List LentOperation
+  only = lentOperation o number k v ∷ []
+
   -- Whom the log's entries on the object make it wait for.
-  abbrev awaited : ℕ
-  awaited = owners t requested (onObject o (s .log))
+  abbrev barring : ℕ
+  barring = owners t asked (onObject o (s .log))
 
-  pub responded : operated ≡ respond base w t o requested awaited
+  pub responded : operated ≡ respond base w t only barring
   unfolding operate
-  responded =
-      unless-accepted (operateReason base whetherSound w t o number k v) w [] (respond base w t o requested awaited)
-      accepted
+  responded = batch-responded w t (o ∷ number ∷ k ∷ v ∷ []) accepted
 
-  -- The set that it is told to wait for is that of the owners, all below 64.
-  module _ (set count : ℕ) (said : operated .outcome .reply ≡ wait set count) where
-    pub awaits : set ≡ awaited
-    awaits =
-        waits-some w t o requested set count awaited .0 (ap (λ (r : Served). r .outcome .reply) (sym responded) ∙ said)
-        .0
-
-    pub awaited-below : set < 2 ^ 64
-    awaited-below =
-        subst⁻¹ (λ (x : ℕ). x < 2 ^ 64) awaits
-        (owners-below t requested o (s .log)
-        (all-map {P = λ (l : Logged). Live s (l .entry .transaction)} (λ l. live-below base w (l .entry .transaction))
-        (s .log) (operate-accepted base whetherSound w t o number k v accepted .sound .store .unsettled .live)))
+  -- The set that it is told to wait for is that of the owners.
+  pub awaits : (set count : ℕ) → operated .outcome .reply ≡ wait set count → set ≡ barring
+  awaits set count said =
+      waits-some w t only set count barring .0 (ap (λ (r : Served). r .outcome .reply) (sym responded) ∙ said) .0
 
   -- The answered request's entry.
   abbrev entryOf : Answer → Logged
-  entryOf a = record { object = o; entry = record { transaction = t; operation = requested; answer = a } }
+  entryOf a = record { object = o; entry = record { transaction = t; operation = asked; answer = a } }
 
-  module _ (a : Answer) (said : operated .outcome .reply ≡ answered a) where
-    passed : awaited ≡ 0
-    passed = answered-none w t o requested awaited .0 (a, ap (λ (r : Served). r .outcome .reply) (sym responded) ∙ said)
+  module _ (a : Answer) (said : operated .outcome .reply ≡ answered (a ∷ [])) where
+    passed : barring ≡ 0
+    passed = answered-none w t only barring .0 (a ∷ [], ap (λ (r : Served). r .outcome .reply) (sym responded) ∙ said)
 
-    carriedThrough : operated ≡ respond base w t o requested 0
-    carriedThrough = responded ∙ ap (respond base w t o requested) passed
+    carriedThrough : operated ≡ respond base w t only 0
+    carriedThrough = responded ∙ ap (respond base w t only) passed
 
-    pub replayed : a ≡ answerTo requested s o
+    pub replayed : a ≡ answerTo asked s o
     replayed =
-        let e : answered (answerTo requested s o) ≡ answered a =
+        let e : answered (answerTo asked s o ∷ []) ≡ answered (a ∷ []) =
         ap (λ (r : Served). r .outcome .reply) (sym carriedThrough) ∙ said in
         cc
 
@@ -213,15 +243,12 @@ module _ (w : List ℕ) (t o number k v : ℕ) (accepted : operateReason base wh
 
     pub ordered : (x b : ℕ)
         → DependsOn (decode base (operated .book) .log) x b
-        ↔ (DependsOn (s .log) x b ⊎ ((x ≡ t) × (x ≡ b → ⊥) × Any (Behind o requested b) (s .log)))
+        ↔ (DependsOn (s .log) x b ⊎ ((x ≡ t) × (x ≡ b → ⊥) × Any (Behind o asked b) (s .log)))
     ordered x b =
         subst (λ (l : List Logged). DependsOn l x b ↔ (DependsOn (s .log) x b
-        ⊎ ((x ≡ t) × (x ≡ b → ⊥) × Any (Behind o requested b) (s .log))))
+        ⊎ ((x ≡ t) × (x ≡ b → ⊥) × Any (Behind o asked b) (s .log))))
         (ap (λ (r : Store). r .log) (sym entered-last))
-        (Iff·trans (depends-appended x b (entryOf a) (s .log)) (
-          ⊎-elim inl (λ p. inr (behind x b (entryOf a) (s .log) .0 p)),
-          ⊎-elim inl (λ p. inr (behind x b (entryOf a) (s .log) .1 p)),
-        ))
+        (ordered-last x b (entryOf a) (s .log))
 
 -- ---- Finish: a circle, a commit or neither
 

@@ -1,25 +1,32 @@
 -- Which entries of an object's log make a request wait, and for whom.
-use Prim.Native.Nat.{ℕ, _^_, _<_}
+use Prim.Native.Nat.{ℕ, _<_}
 use mathlib.Core.Path.{_≡_, refl, sym, ap, _∙_, subst, subst⁻¹}
 use mathlib.Core.Bool.{Bool, true, false, cond, not, _||_, true≢false}
 use mathlib.Mathlib.Data.Bool.Basic.{or-eq-false-eq-eq-false-and-eq-false}
 use mathlib.Core.Logic.{_↔_, _⊎_, inl, inr, ⊎-elim}
-use mathlib.Core.List.{List, [], _∷_}
-use borrow.Author.Tests.{eqb-false, ne-eqb, not-true}
+use mathlib.Core.List.{List, [], _∷_, _++_}
+use borrow.Author.Tests.{eq-eqb, eqb-false, ne-eqb, not-true}
 use lib.Dec.{eqb}
 use Rattle.operations.specs.Operations.{Operation, Answer, All}
 use Rattle.operations.specs.PairRules.{recoverable}
 use Rattle.operations.specs.Log.{Entry, one, others}
-use Rattle.operations.specs.Laws.Cases.{split}
+use Rattle.operations.specs.Laws.Cases.{split, all-map}
 use Rattle.bitset.specs.Bitset.{In, Holds, including}
-use Rattle.bitset.specs.Laws.{holds-none, holds-same, holds-including, holds-unique, holds-empty, nobody-in, below-64}
-use Rattle.store.specs.Store.{Logged, onObject}
+use Rattle.bitset.specs.Laws.{holds-none, holds-same, holds-including, holds-unique, holds-empty, nobody-in}
+use Rattle.store.specs.Store.{Logged, Live, onObject}
 use Rattle.store.specs.Dependency.{Any}
+use Rattle.store.specs.Layout.{decode, base}
+use Rattle.store.specs.Soundness.{Sound}
 use Rattle.store.specs.Steps.{without}
 use Rattle.store.specs.Laws.Any.{any-some, any-map, any-filter}
 use Rattle.store.specs.Laws.Changes.{on-picked}
+use Rattle.store.specs.Laws.Reading.{live-below}
 use Rattle.protocol.specs.Calls.{owners}
 use Rattle.protocol.specs.Terms.{Passes, Bars, Owner, Among, withoutAll}
+
+-- A set is one that holds such members exactly where it has them itself.
+pub held-exactly : (P : ℕ → Type 0) (set held : ℕ) → Holds held P → (set ≡ held) ↔ Holds set P
+held-exactly P set held h = (λ e. subst⁻¹ (λ (x : ℕ). Holds x P) e h, λ g. holds-unique set held P g h)
 
 module _ (t : ℕ) (requested : Operation) where
   abbrev lets : Entry Operation Answer → Bool
@@ -46,7 +53,7 @@ module _ (t : ℕ) (requested : Operation) where
       ap (λ (b : Bool). cond b (owners t requested l) (including (e .transaction) (owners t requested l)))
 
   -- The set's members are the owners.
-  owned : (l : List (Entry Operation Answer)) → Holds (owners t requested l) (Owner t requested l)
+  pub owned : (l : List (Entry Operation Answer)) → Holds (owners t requested l) (Owner t requested l)
   owned [] = holds-none (Owner t requested []) (λ u p. p .1)
   owned (e ∷ l) =
       split (lets e)
@@ -69,6 +76,13 @@ module _ (t : ℕ) (requested : Operation) where
         λ p. ⊎-elim (λ q. inl (sym (q .0))) (λ q. inr (p .0, q)) (p .1),
       ))))
 
+  -- An entry of its own, put last, adds none.
+  pub own-last : (l : List (Entry Operation Answer)) (e : Entry Operation Answer) → e .transaction ≡ t
+      → owners t requested (l ++ (e ∷ [])) ≡ owners t requested l
+  own-last [] e own = told e [] true (rw (eq-eqb (e .transaction) t own) refl)
+  own-last (x ∷ l) e own =
+      ap (λ (set : ℕ). cond (lets x) set (including (x .transaction) set)) (own-last l e own)
+
   pub none-owned : (l : List (Entry Operation Answer)) → (owners t requested l ≡ 0) ↔ All (Passes t requested) l
   none-owned [] = (λ e. tt, λ a. refl)
   none-owned (e ∷ l) =
@@ -87,28 +101,26 @@ module _ (t : ℕ) (requested : Operation) where
   -- No other set has them as its members.
   pub owned-exactly : (l : List (Entry Operation Answer)) (s : ℕ)
       → (s ≡ owners t requested l) ↔ Holds s (Owner t requested l)
-  owned-exactly l s = (
-    λ e. subst⁻¹ (λ (x : ℕ). Holds x (Owner t requested l)) e (owned l),
-    λ h. holds-unique s (owners t requested l) (Owner t requested l) h (owned l),
-  )
+  owned-exactly l s = held-exactly (Owner t requested l) s (owners t requested l) (owned l)
 
   module _ (o : ℕ) where
-    owner-below : (log : List Logged) → All (λ (l : Logged). l .entry .transaction < 64) log
+    barring-below : (log : List Logged) → All (λ (l : Logged). l .entry .transaction < 64) log
         → (u : ℕ) → Any (Bars t requested u) (onObject o log) → u < 64
-    owner-below [] a u p = absurd p
-    owner-below (l ∷ log) a u p =
+    barring-below [] a u p = absurd p
+    barring-below (l ∷ log) a u p =
         split (eqb (l .object) o)
         (λ (on : eqb (l .object) o ≡ true).
         let either : Bars t requested u (l .entry) ⊎ Any (Bars t requested u) (onObject o log) = rw on at p in
-        ⊎-elim (λ q. subst (λ (n : ℕ). n < 64) (q .0) (a .0)) (owner-below log (a .1) u) either)
-        (λ (on : eqb (l .object) o ≡ false). owner-below log (a .1) u (rw on at p))
+        ⊎-elim (λ q. subst (λ (n : ℕ). n < 64) (q .0) (a .0)) (barring-below log (a .1) u) either)
+        (λ (on : eqb (l .object) o ≡ false). barring-below log (a .1) u (rw on at p))
 
-    -- Owners of entries of transactions below 64 are a set of 64 bits.
-    pub owners-below : (log : List Logged) → All (λ (l : Logged). l .entry .transaction < 64) log
-        → owners t requested (onObject o log) < 2 ^ 64
-    owners-below log a =
-        below-64 (owners t requested (onObject o log)) (λ u m.
-        owner-below log a u (owned (onObject o log) u .0 m .1))
+    -- On a sound book an owner is live, so it is below 64.
+    pub owner-below : (w : List ℕ) → Sound base w → (u : ℕ) → Owner t requested (onObject o (decode base w .log)) u
+        → u < 64
+    owner-below w sound u p =
+        barring-below (decode base w .log)
+        (all-map {P = λ (l : Logged). Live (decode base w) (l .entry .transaction)}
+        (λ l. live-below base w (l .entry .transaction)) (decode base w .log) (sound .store .unsettled .live)) u (p .1)
 
     -- Whose entry bars the request when some have gone is none of them, and barred it before.
     barred-left : (gone : List ℕ) (log : List Logged) (u : ℕ) → Owner t requested (onObject o (withoutAll gone log)) u

@@ -1,6 +1,5 @@
 -- `replies::put_numbers`: each case's numbers.
 use native.Mathlib.Omega.{arith}
-use mathlib.Core.List.{[], _∷_}
 use borrow.Author.Needs.{needs}
 use Rattle.bitset.specs.Bitset.{members}
 use Rattle.text.specs.Laws.Putting.{nothing}
@@ -8,34 +7,22 @@ use Rattle.replies.specs.Laws.Printing.{field-fits, fields, numbered}
 use Rattle.replies.proofs.put_numbers.Statement.{statement}
 use Rattle.replies.proofs.put_numbers.Tie as tie
 
--- ---- Every number fits
+-- ---- A number fits
 
-code-fits : tie.Need-put-field-requires
-code-fits c κs =
-    let a = c .before .before .before .before .before .before in
-    field-fits (a .args .at) _ _ (omega (arith, c .before .known-told .given .0)) (omega (arith, a .pre .0))
-
-count-fits : tie.Need-put-field-requires-3
+count-fits : tie.Need-put-field-requires
 count-fits c κs =
     let a = c .before .before .before .before .before .before in
     field-fits (a .args .at) _ _ (omega (arith, c .before .known-told2 .given .1 .0)) (omega (arith, a .pre .0))
 
-rows-fits : tie.Need-put-field-requires-4
+rows-fits : tie.Need-put-field-requires-2
 rows-fits c κs =
     let a = c .before .before .before .before .before .before in
     field-fits (a .args .at) _ _ (omega (arith, c .before .known-told6 .given .0)) (omega (arith, a .pre .0))
 
-reason-fits : tie.Need-put-field-requires-5
+reason-fits : tie.Need-put-field-requires-3
 reason-fits c κs =
     let a = c .before .before .before .before .before .before in
     field-fits (a .args .at) _ _ (omega (arith, c .before .known-told7 .given .0)) (omega (arith, a .pre .0))
-
-value-fits : tie.Need-put-field-requires-2
-value-fits c κs =
-    let a = c .before .before .before .before .before .before .before .before .before .before in
-    let code = c .before .before .before .put-field in
-    field-fits (code .result) _ _ (omega (arith, c .before .before .before .before .before .known-told .given .1 .0))
-    (omega (arith, a .pre .0, code .ensures .1, code .kept .0))
 
 -- ---- What each case leaves
 
@@ -44,28 +31,28 @@ ok c =
     let a = c .before .before .before .before .args in
     numbered _ (c .enum-told .given .1) (a .list .now) (nothing (a .out .now) (a .at)) (omega arith)
 
-finished : tie.Need-returns-4
-finished c =
+answers : tie.Need-returns-3
+answers c =
     let a = c .before .before .before .before .args in
     numbered _ (c .enum-told2 .given .1) (a .list .now) (nothing (a .out .now) (a .at)) (omega arith)
 
+finished : tie.Need-returns-5
+finished c =
+    let a = c .before .before .before .before .args in
+    numbered _ (c .enum-told3 .given .1) (a .list .now) (nothing (a .out .now) (a .at)) (omega arith)
+
 answered : tie.Need-returns-2
 answered c =
-    let told = c .before .before .before .before .before .before .before .before in
-    let a = told .before .before .before .before .before in
-    let code = c .before .before .before .before .before .before .put-field in
-    let value = c .before .before .put-field2 in
-    numbered _ (told .before .reply .given .1) (a .args .list .now)
-    (fields _ (_ ∷ [])
-    (field-fits (a .args .at) _ _ (omega (arith, told .known-told .given .0)) (omega (arith, a .pre .0)))
-    (code .ensures .0) (value .ensures .0))
-    (omega (arith, code .ensures .1, value .ensures .1))
+    let a = c .before .before .before .before .before .before .before .before .before .args in
+    let put = c .before .before .put-answer .ensures in
+    numbered _ (c .before .before .before .before .before .reply .given .1) (a .list .now) (put .0)
+    (omega (arith, put .1))
 
-wait : tie.Need-returns-3
+wait : tie.Need-returns-4
 wait c =
     let told = c .before .before .before .before .before .before .before .before in
     let a = told .before .before .before .before .before in
-    let count = c .before .before .before .before .before .before .put-field3 in
+    let count = c .before .before .before .before .before .before .put-field in
     let owners = c .before .before .put-members in
     numbered _ (told .before .reply2 .given .1) (a .args .list .now)
     (fields _ (members _)
@@ -73,35 +60,35 @@ wait c =
     (count .ensures .0) (owners .ensures .0))
     (omega (arith, count .ensures .1, owners .ensures .1))
 
-counted : tie.Need-returns-8
+counted : tie.Need-returns-9
 counted c =
     let a = c .before .before .before .before .before .before .before .before .before .args in
-    let put = c .before .before .put-field4 .ensures in
+    let put = c .before .before .put-field2 .ensures in
     numbered _ (c .before .before .before .before .before .reply6 .given .1) (a .list .now) (put .0)
     (omega (arith, put .1))
 
-refused : tie.Need-returns-9
+refused : tie.Need-returns-10
 refused c =
     let a = c .before .before .before .before .before .before .before .before .before .args in
-    let put = c .before .before .put-field5 .ensures in
+    let put = c .before .before .put-field3 .ensures in
     numbered _ (c .before .before .before .before .before .reply7 .given .1) (a .list .now) (put .0)
     (omega (arith, put .1))
 
-committed : tie.Need-returns-5
+committed : tie.Need-returns-6
 committed c =
     let a = c .before .before .before .before .before .before .before .before .before in
     let put = c .before .before .put-front .ensures in
     numbered _ (c .before .before .before .before .before .reply3 .given .1) (a .args .list .now) (put .0)
     (omega (arith, put .1, a .pre .1))
 
-circle : tie.Need-returns-6
+circle : tie.Need-returns-7
 circle c =
     let a = c .before .before .before .before .before .before .before .before .before in
     let put = c .before .before .put-front2 .ensures in
     numbered _ (c .before .before .before .before .before .reply4 .given .1) (a .args .list .now) (put .0)
     (omega (arith, put .1, a .pre .1))
 
-cancelled : tie.Need-returns-7
+cancelled : tie.Need-returns-8
 cancelled c =
     let a = c .before .before .before .before .before .before .before .before .before in
     let put = c .before .before .put-front3 .ensures in
@@ -114,8 +101,8 @@ put-numbers-spec =
     (tie.spec
     (λ c. search needs)
     (λ c. search needs)
-    code-fits
-    value-fits
+    (λ c κs. search needs)
+    (λ c. search needs)
     (λ c. search needs)
     count-fits
     (λ c κs. search needs)
@@ -133,6 +120,7 @@ put-numbers-spec =
     ok
     (λ c. search needs)
     answered
+    answers
     (λ c. search needs)
     wait
     finished

@@ -10,31 +10,35 @@ ok c = worded _ (c .before .before .before .before .before .enum-told .given .1)
 answer : tie.Need-returns-2
 answer c = worded _ (c .before .before .before .before .before .enum-told2 .given .1) (c .before .before .put2 .ensures)
 
-wait : tie.Need-returns-3
-wait c = worded _ (c .before .before .before .before .before .enum-told3 .given .1) (c .before .before .put3 .ensures)
+answers : tie.Need-returns-3
+answers c =
+    worded _ (c .before .before .before .before .before .enum-told3 .given .1) (c .before .before .put3 .ensures)
 
-finished : tie.Need-returns-4
+wait : tie.Need-returns-4
+wait c = worded _ (c .before .before .before .before .before .enum-told4 .given .1) (c .before .before .put4 .ensures)
+
+finished : tie.Need-returns-5
 finished c =
-    worded _ (c .before .before .before .before .before .enum-told4 .given .1) (c .before .before .put4 .ensures)
-
-committed : tie.Need-returns-5
-committed c =
     worded _ (c .before .before .before .before .before .enum-told5 .given .1) (c .before .before .put5 .ensures)
 
-circle : tie.Need-returns-6
-circle c = worded _ (c .before .before .before .before .before .enum-told6 .given .1) (c .before .before .put6 .ensures)
+committed : tie.Need-returns-6
+committed c =
+    worded _ (c .before .before .before .before .before .enum-told6 .given .1) (c .before .before .put6 .ensures)
 
-cancelled : tie.Need-returns-7
+circle : tie.Need-returns-7
+circle c = worded _ (c .before .before .before .before .before .enum-told7 .given .1) (c .before .before .put7 .ensures)
+
+cancelled : tie.Need-returns-8
 cancelled c =
-    worded _ (c .before .before .before .before .before .enum-told7 .given .1) (c .before .before .put7 .ensures)
-
-counted : tie.Need-returns-8
-counted c =
     worded _ (c .before .before .before .before .before .enum-told8 .given .1) (c .before .before .put8 .ensures)
 
-refused : tie.Need-returns-9
-refused c =
+counted : tie.Need-returns-9
+counted c =
     worded _ (c .before .before .before .before .before .enum-told9 .given .1) (c .before .before .put9 .ensures)
+
+refused : tie.Need-returns-10
+refused c =
+    worded _ (c .before .before .before .before .before .enum-told10 .given .1) (c .before .before .put10 .ensures)
 
 pub put-word-spec : {M : Type 1} → statement M
 put-word-spec =
@@ -68,9 +72,14 @@ put-word-spec =
     (λ c. search needs)
     (λ c κs. search needs)
     (λ c. search needs)
+    (λ c. search needs)
+    (λ c κs. search needs)
+    (λ c. search needs)
     ok
     (λ c. search needs)
     answer
+    (λ c. search needs)
+    answers
     (λ c. search needs)
     wait
     (λ c. search needs)

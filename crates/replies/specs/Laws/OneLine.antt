@@ -11,7 +11,7 @@ use Rattle.replies.specs.Printed.{wordOf, printedNumbers, spaced, printe
 
 word-without : (reply : Reply) → Without (code "\n") (wordOf reply)
 word-without ok = without-computed (code "\n") (wordOf ok) refl
-word-without (answered reply) = without-computed (code "\n") (wordOf (answered reply)) refl
+word-without (answered answers) = without-computed (code "\n") (wordOf (answered answers)) refl
 word-without (wait owners count) = without-computed (code "\n") (wordOf (wait owners count)) refl
 word-without finished = without-computed (code "\n") (wordOf finished) refl
 word-without (committed count) = without-computed (code "\n") (wordOf (committed count)) refl

@@ -21,7 +21,7 @@ use Rattle.protocol.specs.ReplyOf.{replyOf}
 use Rattle.protocol.specs.declared.Reply as code
 use Rattle.replies.specs.Printed.{wordOf, printedNumbers, spaced}
 
-fields-append : (ns ms : List ℕ) → spaced (ns ++ ms) ≡ spaced ns ++ spaced ms
+pub fields-append : (ns ms : List ℕ) → spaced (ns ++ ms) ≡ spaced ns ++ spaced ms
 fields-append [] ms = refl
 fields-append (n ∷ ns) ms =
     ap (λ (l : List ℕ). 32 ∷ (decimal n ++ l)) (fields-append ns ms)
@@ -200,7 +200,7 @@ module _ {out₀ : List ℕ} {at set : ℕ} {out : List ℕ} {end left : ℕ} (s
 
 pub word-length : (r : Reply) → length (wordOf r) ≤ 9
 word-length ok = omega arith
-word-length (answered reply) = omega arith
+word-length (answered answers) = omega arith
 word-length (wait owners count) = omega arith
 word-length finished = omega arith
 word-length (committed count) = omega arith

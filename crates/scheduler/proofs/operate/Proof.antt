@@ -1,20 +1,16 @@
 -- `scheduler::operate`: refused, made to wait, or answered and entered in the log.
-use Prim.Native.Nat.{ℕ, _<_}
-use mathlib.Core.Path.{sym, ap, _∙_, subst}
+use Prim.Native.Nat.{_<_}
+use mathlib.Core.Path.{sym, _∙_}
 use borrow.Author.Needs.{needs}
 use Rattle.operations.specs.Operations as model
-use Rattle.operations.specs.Stored.{answerOf}
-use Rattle.store.specs.Layout.{base, decode, entryAt, word}
+use Rattle.store.specs.Layout.{base}
 use Rattle.store.specs.Decisions.{whetherSound}
-use Rattle.store.specs.Laws.Lists.{length-tabulate}
 use Rattle.store.specs.Laws.Reading.{kind-below}
-use Rattle.answers.specs.Answers.{Requested}
-use Rattle.answers.specs.Laws.Requests.{answer-to}
-use Rattle.waits.specs.Laws.Rules.{named}
-use Rattle.protocol.specs.Calls.{request, answerTo}
+use Rattle.protocol.specs.Calls.{request}
 use Rattle.protocol.specs.Terms.{OperateAccepted}
 use Rattle.protocol.specs.Laws.Reasons.{operate-accepted}
-use Rattle.scheduler.specs.Laws.Serving.{operate-refused, asks, operate-waits, operate-answers, numbered}
+use Rattle.batches.specs.Laws.Entering.{numbered}
+use Rattle.scheduler.specs.Laws.Serving.{operate-refused, operate-waits, operate-answers}
 use Rattle.scheduler.proofs.operate.Statement.{statement}
 use Rattle.scheduler.proofs.operate.Tie as tie
 
@@ -67,58 +63,34 @@ waits c =
     (past .if1 .left)
     _ _ (scanned .owners .ensures (requested past) (asked .request .ensures)) (c .before .if2 .taken) (c .size .ensures)
 
-answer-requires : tie.Need-answer-requires
-answer-requires c κs =
-    let asked = c .before .before .before .before .before in
-    let past = asked .before in
-    let a = is-accepted past in
-    let s = start past .args in
-    let request =
-    asks (s .book .now) (s .transaction) (s .object) (s .operation) (s .key) (s .value) (asked .request .result) a
-    (asked .request .ensures) in (
-      a .sound .packed,
-      subst (λ (n : ℕ). n < 16) (sym (c .wide .ensures)) (within past),
-      a .sound .store .unsettled .room,
-      (
-        requested past,
-        subst (λ (n : ℕ). Requested (s .book .now) n (asked .request .result) (requested past))
-            (sym (c .wide .ensures)) request,
-      ),
-    )
-
-append-requires : tie.Need-append-requires
-append-requires c κs =
-    let request = c .before .before .before .before .before .before .before in
-    let past = request .before in
-    let a = is-accepted past in
-    let w = start past .args .book .now in (
-      a .sound .packed,
-      subst (λ (n : ℕ). n < 256) (length-tabulate (word w 0) (entryAt w)) (a .entries),
-      (requested past, request .request .ensures),
-    )
+enter-requires : tie.Need-enter-requires
+enter-requires c κs =
+    let asked = c .before .before .before .before in
+    let a = is-accepted (asked .before) in
+    let s = start (asked .before) .args in
+    record {
+      sound = a .sound;
+      number = s .operation;
+      key = s .key;
+      value = s .value;
+      accepted = record { named = a .named; kind = a .kind; entries = a .entries; room = a .room };
+      stored = asked .request .ensures;
+    }
 
 answers : tie.Need-returns-3
 answers c =
-    let appended = c .before .before in
-    let answered = appended .before .before in
-    let scanned = answered .before .before .before .before in
-    let request = scanned .before .before in
-    let past = request .before in
+    let entered = c .before .before in
+    let passed = entered .before .before in
+    let scanned = passed .before in
+    let asked = scanned .before .before in
+    let past = asked .before in
     let a = start past .args in
-    let stored = request .request .ensures in
-    let o = requested past in
-    let at = answered .before in
-    let given = answered .answer .ensures
-    ∙ answer-to (a .book .now) (at .wide .result) (subst (λ (n : ℕ). n < 16) (sym (at .wide .ensures)) (within past))
-    (request .request .result) o
-    (named (request .request .result) o stored)
-    ∙ ap (answerTo o (decode base (a .book .now))) (at .wide .ensures) in
+    let told = entered .enter .ensures (requested past) (asked .request .ensures) in
     operate-answers (a .book .now) (a .transaction) (a .object) (a .operation) (a .key) (a .value) _
     (past .before .operate .ensures (a .key) (a .value))
     (past .if1 .left)
-    _ (scanned .owners .ensures o stored) (answered .before .before .before .if2 .left)
-    (answerOf (answered .answer .result)) given
-    _ (appended .append .ensures o stored)
+    _ (scanned .owners .ensures (requested past) (asked .request .ensures)) (passed .if2 .left)
+    _ (told .0) _ (told .1)
 
 pub operate-spec : {M : Type 1} → statement M
 operate-spec =
@@ -132,8 +104,6 @@ operate-spec =
     (λ c κs. search needs)
     (λ c. search needs)
     waits
-    (λ c κs. search needs)
-    answer-requires
-    append-requires
+    enter-requires
     (λ c. search needs)
     answers)

@@ -1,41 +1,41 @@
 -- What a call leaves, from the reason that the code finds: refused where there is one, and else served.
-use Prim.Native.Nat.{ℕ, zero, suc, _+_, _*_, _≤_, _<_}
-use mathlib.Core.Path.{_≡_, refl, sym, ap, ap₂, _∙_}
+use Prim.Native.Nat.{ℕ, zero, suc, _+_, _*_, _/_}
+use mathlib.Core.Path.{_≡_, refl, sym, ap, ap₂, _∙_, subst}
 use mathlib.Core.Bool.{Bool, true, false, decide}
 use mathlib.Core.Logic.{_↔_}
-use mathlib.Core.Option.{none, some, Option·none-ne-some}
 use mathlib.Core.List.{List, [], _∷_, map}
 use native.Mathlib.Omega.{arith}
-use lib.ListN.{length, take, drop, List·getD-eq-default}
-use Rattle.operations.specs.declared.Operation as words
-use Rattle.operations.specs.Operations.{Operation, Answer, kindOf, stored, reduceKey, numbered as operations}
-use Rattle.operations.specs.PairRules.{Numbered}
+use lib.ListN.{length, take, drop}
+use lib.Seq.{take-append-seam}
+use Rattle.replay.specs.Laws.Lists.{map-take}
+use Rattle.operations.specs.Operations.{Operation, Answer}
+use Rattle.operations.specs.declared.Answer as answers
+use Rattle.operations.specs.Stored.{answerOf}
 use Rattle.store.specs.Store.{Status, active, pseudoCommitted, Store, objectOf, onObject}
 use Rattle.store.specs.Store.{pseudoCommittedCount}
 use Rattle.store.specs.Layout.{base, encode, decode, objectStart, readStatus, joined, rowWords}
 use Rattle.store.specs.Dependency.{Ready, OnCycle}
 use Rattle.store.specs.Soundness.{Sound}
 use Rattle.store.specs.Decisions.{whetherSound, whetherReady, whetherOnCycle}
-use Rattle.store.specs.Steps.{appended, withStatus}
-use Rattle.store.specs.Laws.Reading.{kind-below}
-use Rattle.store.specs.Laws.Words.{below}
+use Rattle.store.specs.Steps.{withStatus}
 use Rattle.store.specs.Laws.Deciding.{decided}
 use Rattle.statuses.specs.Laws.Words.{finished-read}
 use Rattle.bitset.specs.Bitset.{size}
-use Rattle.log.specs.Log.{logged, StoredAs}
-use Rattle.answers.specs.Answers.{Requested}
-use Rattle.answers.specs.Laws.Whole.{rows-read}
-use Rattle.waits.specs.Laws.Rules.{named}
 use Rattle.sound.specs.Examined.{Examined}
 use Rattle.ending.specs.Ending.{Tracked, Concluded}
 use Rattle.protocol.specs.Replies.{Reply, ok, answered, wait, counted, refused, Outcome, outcome, Served, served}
 use Rattle.protocol.specs.Replies as replies
 use Rattle.protocol.specs.Ending.{Settlement, ended, commit, committedFirst, settledAll}
+use Rattle.protocol.specs.Calls.{LentOperation}
 use Rattle.protocol.specs.Calls as calls
-use Rattle.protocol.specs.Terms.{OperateAccepted}
-use Rattle.protocol.specs.Laws.Ending.{entries-fit}
 use Rattle.protocol.specs.Laws.Leaving.{counted-part}
-use Rattle.protocol.specs.Laws.Reasons.{unless-refused, unless-accepted, request-reduced}
+use Rattle.protocol.specs.ReplyOf.{batchedOf, filled, Filled}
+use Rattle.protocol.specs.declared.Batched.{Batched}
+use Rattle.protocol.specs.declared.Reply.the-variants.{Answers, Wait, Refused}
+use Rattle.protocol.specs.Laws.Reasons.{unless-refused, unless-accepted}
+use Rattle.protocol.specs.Laws.Batches.{answers-counted}
+use Rattle.protocol.specs.Laws.Lent.{lent-count}
+use Rattle.scheduler.specs.Unanswered.{unanswered}
 
 module _ (n reason : ℕ) (found : reason ≡ n) (w list : List ℕ) (s : Served) where
   said-no : (reason ≡ 0 → ⊥) → served w (outcome (refused reason) list []) ≡ calls.unless n w list s
@@ -72,37 +72,79 @@ module _ (w : List ℕ) (t reason : ℕ) (found : reason ≡ calls.beginReason b
 
 -- ---- Operate
 
--- An accepted operation, as stored, asks for something of the object's kind.
-pub asks : (w : List ℕ) (t o number k v : ℕ) (operation : words.Operation) → OperateAccepted base w t o number k v
-    → StoredAs operation (calls.request base number k v) → Requested w o operation (calls.request base number k v)
-asks w t o number k v operation a stored =
-    let requested = calls.request base number k v in
-    let s = a .sound .store .unsettled in
-    record {
-      number = stored .0;
-      named = named operation requested stored;
-      key = request-reduced number k v;
-      rows =
-          rw (← rows-read w o (kind-below base w o (kindOf requested) (a .kind)))
-          (s .rows o (kindOf requested) (a .kind));
-      entries = entries-fit (decode base w) o (kindOf requested) (a .kind) (decode base w .log) (s .fits) (s .reduced);
-    }
-
-module _ (w : List ℕ) (t o : ℕ) (requested : Operation) where
+module _ (w : List ℕ) (t : ℕ) (qs : List LentOperation) where
   waits : (set : ℕ) → (set ≡ 0 → ⊥)
-      → served w (outcome (wait set (size set)) [] []) ≡ calls.respond base w t o requested set
+      → served w (outcome (wait set (size set)) [] []) ≡ calls.respond base w t qs set
   waits zero other = absurd (other refl)
   waits (suc n) other = refl
 
-  answers : (answer : Answer) → answer ≡ calls.answerTo requested (decode base w) o
-      → (after : List ℕ) → after ≡ encode base (appended (logged t o requested answer) (decode base w))
-      → served after (outcome (answered answer) [] []) ≡ calls.respond base w t o requested 0
-  answers answer given after written =
-      ap₂ (λ (x : List ℕ) (a : Answer). served x (outcome (answered a) [] []))
-      (written ∙ ap (λ (a : Answer). encode base (appended (logged t o requested a) (decode base w))) given) given
+module _ (w : List ℕ) (t : ℕ) (operations : List ℕ) (reason : ℕ)
+    (found : reason ≡ calls.batchReason base whetherSound w t operations) where
+  abbrev qs : List LentOperation
+  qs = calls.operationsIn operations
 
+  abbrev awaited : ℕ
+  awaited = calls.awaited base t (decode base w) qs
+
+  batch-refused : (reason ≡ 0 → ⊥)
+      → served w (outcome (refused reason) [] []) ≡ calls.batch base whetherSound w t operations
+  unfolding calls.batch
+  batch-refused applies = said-no _ reason found w [] _ applies
+
+  batch-waits : reason ≡ 0 → (set count : ℕ) → set ≡ awaited → (set ≡ 0 → ⊥) → count ≡ size set
+      → served w (outcome (wait set count) [] []) ≡ calls.batch base whetherSound w t operations
+  unfolding calls.batch
+  batch-waits e set count scanned other sized =
+      ap (λ (n : ℕ). served w (outcome (wait set n) [] [])) sized
+      ∙ waits w t qs set other
+      ∙ ap (calls.respond base w t qs) scanned
+      ∙ accepted _ reason found w [] _ e
+
+  batch-answers : reason ≡ 0 → (set : ℕ) → set ≡ awaited → set ≡ 0
+      → (given : List Answer) → given ≡ calls.answersTo base t qs (decode base w)
+      → (after : List ℕ) → after ≡ encode base (calls.runAll base t qs (decode base w))
+      → served after (outcome (answered given) [] []) ≡ calls.batch base whetherSound w t operations
+  unfolding calls.batch
+  batch-answers e set scanned free given replayed after written =
+      ap₂ (λ (x : List ℕ) (l : List Answer). served x (outcome (answered l) [] [])) written replayed
+      ∙ ap (calls.respond base w t qs) (sym free ∙ scanned)
+      ∙ accepted _ reason found w [] _ e
+
+  -- What the code hands back, with the array.
+  abbrev Leaves : List ℕ → Batched → Type 0
+  Leaves after b =
+      (served after (outcome (batchedOf b) [] []) ≡ calls.batch base whetherSound w t operations) × Filled b
+
+  pub leaves-refused : (b : Batched) → b ≡ unanswered (Refused reason) → (reason ≡ 0 → ⊥) → Leaves w b
+  leaves-refused b made applies = subst (Leaves w) (sym made) (batch-refused applies, (refl, refl))
+
+  module _ (e : reason ≡ 0) (set : ℕ) (scanned : set ≡ awaited) where
+    pub leaves-waiting : (b : Batched) (count : ℕ) → b ≡ unanswered (Wait set count) → (set ≡ 0 → ⊥) → count ≡ size set
+        → Leaves w b
+    leaves-waiting b count made other sized =
+        subst (Leaves w) (sym made) (batch-waits e set count scanned other sized, (refl, refl))
+
+    pub leaves-answered : set ≡ 0 → (given : List answers.Answer) (after : List ℕ)
+        → after ≡ encode base (calls.runAll base t qs (decode base w))
+        → map answerOf given ≡ filled (calls.answersTo base t qs (decode base w))
+        → Leaves after (record { reply = Answers; count = length operations / 4; answers = given })
+    leaves-answered free given after written put =
+        let replayed = calls.answersTo base t qs (decode base w) in
+        let n = length operations / 4 in
+        let many : n ≡ length replayed = sym (answers-counted t (decode base w) qs ∙ lent-count operations) in
+        let taken : map answerOf (take n given) ≡ replayed =
+        map-take answerOf n given ∙ ap (take n) put ∙ ap (λ (m : ℕ). take m (filled replayed)) many
+        ∙ take-append-seam replayed _ in (
+          batch-answers e set scanned free (map answerOf (take n given)) taken after written,
+          (many ∙ ap length (sym taken), put ∙ ap filled (sym taken)),
+        )
+
+-- Operate is the batch of one.
 module _ (w : List ℕ) (t o number k v reason : ℕ)
     (found : reason ≡ calls.operateReason base whetherSound w t o number k v) where
+  abbrev lent : List ℕ
+  lent = o ∷ number ∷ k ∷ v ∷ []
+
   abbrev requested : Operation
   requested = calls.request base number k v
 
@@ -112,34 +154,21 @@ module _ (w : List ℕ) (t o number k v reason : ℕ)
   pub operate-refused : (reason ≡ 0 → ⊥)
       → served w (outcome (refused reason) [] []) ≡ calls.operate base whetherSound w t o number k v
   unfolding calls.operate
-  operate-refused applies = said-no _ reason found w [] _ applies
+  operate-refused = batch-refused w t lent reason found
 
   pub operate-waits : reason ≡ 0 → (set count : ℕ) → set ≡ owners → (set ≡ 0 → ⊥) → count ≡ size set
       → served w (outcome (wait set count) [] []) ≡ calls.operate base whetherSound w t o number k v
   unfolding calls.operate
-  operate-waits e set count scanned other sized =
-      ap (λ (n : ℕ). served w (outcome (wait set n) [] [])) sized
-      ∙ waits w t o requested set other
-      ∙ ap (calls.respond base w t o requested) scanned
-      ∙ accepted _ reason found w [] _ e
+  operate-waits = batch-waits w t lent reason found
 
   pub operate-answers : reason ≡ 0 → (set : ℕ) → set ≡ owners → set ≡ 0 → (answer : Answer)
       → answer ≡ calls.answerTo requested (decode base w) o
-      → (after : List ℕ) → after ≡ encode base (appended (logged t o requested answer) (decode base w))
-      → served after (outcome (answered answer) [] []) ≡ calls.operate base whetherSound w t o number k v
+      → (after : List ℕ) → after ≡ encode base (calls.entered t o requested (decode base w))
+      → served after (outcome (answered (answer ∷ [])) [] []) ≡ calls.operate base whetherSound w t o number k v
   unfolding calls.operate
-  operate-answers e set scanned free answer given after written =
-      answers w t o requested answer given after written
-      ∙ ap (calls.respond base w t o requested) (sym free ∙ scanned)
-      ∙ accepted _ reason found w [] _ e
-
--- The number of an operation is from 1 to 11.
-pub numbered : (number k v : ℕ) (o : Operation) → stored reduceKey number k v ≡ some o → Numbered number
-numbered zero k v o e = absurd (Option·none-ne-some o e)
-numbered (suc number) k v o e =
-    below (suc number) 12 (λ (l : suc number < 12). (omega arith, omega arith))
-    (λ (l : 12 ≤ suc number). absurd (Option·none-ne-some o
-    (sym (List·getD-eq-default (none ∷ map some (operations reduceKey k v)) none {n = suc number} l) ∙ e)))
+  operate-answers e set scanned free answer replayed after written =
+      batch-answers w t lent reason found e set scanned free (answer ∷ [])
+      (ap (λ (a : Answer). a ∷ []) replayed) after written
 
 -- ---- Contents
 

@@ -1,6 +1,6 @@
 -- `script::end_input`: nothing, or the reply to the line that was begun.
 use borrow.Author.Needs.{needs}
-use Rattle.script.specs.Laws.Serving.{closed-empty, closed-line}
+use Rattle.script.specs.Laws.Closing.{closed-empty, closed-line}
 use Rattle.script.proofs.end_input.Statement.{statement}
 use Rattle.script.proofs.end_input.Tie as tie
 

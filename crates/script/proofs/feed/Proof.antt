@@ -11,7 +11,7 @@ use Rattle.script.proofs.feed.Tie as tie
 
 abbrev Inv-loop : tie.InvT-loop
 Inv-loop book₀ line₀ kept block out₀ progress₀ book line out progress =
-    (length line ≡ 178) × (length out ≡ length out₀) × (length book ≡ length book₀)
+    (length line ≡ 717) × (length out ≡ length out₀) × (length book ≡ length book₀)
     × Took (session book₀ (take kept line₀)) block (begun kept) book line out₀ out progress
 
 abbrev μ-loop : tie.MeasureT-loop
@@ -20,11 +20,11 @@ abbrev μ-loop : tie.MeasureT-loop
 loop-holds : tie.Need-loop-holds Inv-loop μ-loop
 loop-holds c =
     let a = c .before .before .before .before in (
-      a .pre .0,
+      a .pre .0 .0,
       refl,
       refl,
       took-nothing (a .args .book .now) (a .args .line .now) (a .args .block .now) (a .args .out .now) (a .args .kept)
-          (a .pre .1),
+          (a .pre .0 .1),
     )
 
 goes-on-requires : tie.Need-goes-on-requires Inv-loop μ-loop
@@ -32,14 +32,14 @@ goes-on-requires c κs = omega (arith, c .loop .inv .3 .fits, c .loop .inv .1)
 
 goes : (c : tie.Then1 Inv-loop μ-loop) → let loop = c .before .before .loop in
     (loop .progress .at < length (c .before .before .before .before .before .before .before .args .block .now))
-    × (loop .progress .written + 266 ≤ length (loop .out))
+    × (loop .progress .written + 359 ≤ length (loop .out))
 goes c = c .before .goes-on .ensures .0 (c .if1 .taken)
 
 take-line-requires : tie.Need-take-line-requires Inv-loop μ-loop
 take-line-requires c κs =
     let loop = c .before .before .before .before .before .loop in
     let more = goes (c .before .before .before) in
-    (loop .inv .0, loop .inv .3 .few, more .0, more .1)
+    ((loop .inv .0, loop .inv .3 .few), more .0, more .1)
 
 took : (c : tie.After-slice-known6 Inv-loop μ-loop)
     → let at = c .before .before .before .before .before .before .before .before .before .before .before .before in
@@ -69,7 +69,7 @@ same-length c = c .before .before .loop .inv .2
 
 same-length-2 : tie.Need-same-length-2 Inv-loop μ-loop
 same-length-2 c =
-    c .before .before .loop .inv .0 ∙ sym (c .before .before .before .before .before .before .before .pre .0)
+    c .before .before .loop .inv .0 ∙ sym (c .before .before .before .before .before .before .before .pre .0 .0)
 
 same-length-3 : tie.Need-same-length-3 Inv-loop μ-loop
 same-length-3 c = c .before .before .loop .inv .1

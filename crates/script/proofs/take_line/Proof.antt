@@ -13,13 +13,13 @@ rest c =
     let find = c .before .before .before .before .before .before .find in
     let keep = c .before .before .before .keep in
     took-rest (a .args .book .now) (a .args .line .now) (a .args .block .now) (a .args .out .now) (a .args .from)
-    (a .pre .1) (a .pre .0) (a .pre .2) (a .pre .3) _ (find .ensures .0) _ _ (keep .ensures)
+    (a .pre .0 .1) (a .pre .0 .0) (a .pre .1) (a .pre .2) _ (find .ensures .0) _ _ (keep .ensures)
     (c .if1 .taken)
 
 kept-there : tie.Need-slice-aggregate-reply-line
 kept-there c =
     let keep = c .before .before .before .before .before .keep in
-    sym (length-take-le (keep .result) (keep .last .0) (omega (arith, keep .ensures .0, keep .ensures .2)))
+    sym (length-take-le (keep .result) (keep .last .0) (omega (arith, keep .ensures .0 .0, keep .ensures .0 .1)))
 
 line : tie.Need-returns-2
 line c =
@@ -28,7 +28,7 @@ line c =
     let found = kept .before .before .before in
     let a = found .before .before .before .before .before in
     took-line (a .args .book .now) (a .args .line .now) (a .args .block .now) (a .args .out .now) (a .args .from)
-    (a .pre .1) (a .pre .0) (a .pre .2) (a .pre .3) _ (found .find .ensures .0) _ _ (kept .keep .ensures)
+    (a .pre .0 .1) (a .pre .0 .0) (a .pre .1) (a .pre .2) _ (found .find .ensures .0) _ _ (kept .keep .ensures)
     (omega (arith, found .find .ensures .1, tested .if1 .left)) (c .before .before .before .before .reply-line .ensures)
 
 pub take-line-spec : {M : Type 1} → statement M

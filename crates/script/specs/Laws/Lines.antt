@@ -11,7 +11,8 @@ use Rattle.text.specs.Text.{ascii, split}
 use Rattle.text.specs.Laws.Lines.{Without, without-computed, some-piece, split-ended}
 use Rattle.lines.specs.Lines.{callIn}
 use Rattle.replies.specs.Laws.OneLine.{printed-without}
-use Rattle.script.specs.Script.{withoutEmptyLast, linesIn, serving, lineServed, replies, asLines}
+use Rattle.dispatch.specs.Served.{serving, lineServed}
+use Rattle.script.specs.Script.{withoutEmptyLast, linesIn, replies, asLines}
 use Rattle.script.specs.Laws.Reading.{line-kept}
 
 ended-lines : (texts : List (List ℕ)) → All (Without (code "\n")) texts → linesIn (asLines texts) ≡ texts

@@ -14,8 +14,8 @@ use Rattle.protocol.specs.Call.{Call}
 use Rattle.text.specs.Text.{split}
 use Rattle.text.specs.Laws.Lines.{Without, begun, begun-empty, begun-longer, some-piece}
 use Rattle.lines.specs.Theorems.{front-enough}
-use Rattle.script.specs.Script.{withoutEmptyLast, LineServed, serving, lineServed, replies, asLines, zeros}
-use Rattle.script.specs.Script.{script}
+use Rattle.dispatch.specs.Served.{LineServed, serving, lineServed}
+use Rattle.script.specs.Script.{withoutEmptyLast, replies, asLines, zeros, script}
 use Rattle.script.specs.Sessions.{Session, session, opening, Turn, turn, printing, lineEnded, taken, closing}
 use Rattle.script.specs.Sessions.{soFar}
 
@@ -32,7 +32,7 @@ taken-append s (b ∷ xs) ys =
     (ap (printing (lineEnded s .output)) (taken-append (lineEnded s .after) xs ys)
     ∙ printing-after (lineEnded s .output) (taken (lineEnded s .after) xs .output)
     (taken (taken (lineEnded s .after) xs .after) ys)))
-    (λ (e : eqb b (code "\n") ≡ false). rw e (taken-append (session (s .book) (take 178 (s .line ++ (b ∷ [])))) xs ys))
+    (λ (e : eqb b (code "\n") ≡ false). rw e (taken-append (session (s .book) (take 717 (s .line ++ (b ∷ [])))) xs ys))
 
 take-front : (n : ℕ) (xs ys : List ℕ) → take n (take n xs ++ ys) ≡ take n (xs ++ ys)
 take-front zero xs ys = refl
@@ -40,20 +40,20 @@ take-front (suc n) [] ys = refl
 take-front (suc n) (x ∷ xs) ys = ap (λ (l : List ℕ). x ∷ l) (take-front n xs ys)
 
 -- Bytes without a line feed only lengthen the line.
-pub taken-part : (w line part : List ℕ) → length line ≤ 178 → Without (code "\n") part
-    → taken (session w line) part ≡ turn (session w (take 178 (line ++ part))) []
+pub taken-part : (w line part : List ℕ) → length line ≤ 717 → Without (code "\n") part
+    → taken (session w line) part ≡ turn (session w (take 717 (line ++ part))) []
 taken-part w line [] few free =
-    ap (λ (l : List ℕ). turn (session w l) []) (sym (ap (take 178) (append-nil line) ∙ take-all 178 line few))
+    ap (λ (l : List ℕ). turn (session w l) []) (sym (ap (take 717) (append-nil line) ∙ take-all 717 line few))
 taken-part w line (b ∷ part) few free =
     rw (free .0)
-    (taken-part w (take 178 (line ++ (b ∷ []))) part (rw length-take (omega arith)) (free .1)
+    (taken-part w (take 717 (line ++ (b ∷ []))) part (rw length-take (omega arith)) (free .1)
     ∙ ap (λ (l : List ℕ). turn (session w l) [])
-    (take-front 178 (line ++ (b ∷ [])) part ∙ ap (take 178) (append-assoc line (b ∷ []) part)))
+    (take-front 717 (line ++ (b ∷ [])) part ∙ ap (take 717) (append-assoc line (b ∷ []) part)))
 
 -- ---- The lines of a script
 
--- What stands behind 178 bytes of a line changes no reply.
-front-served : (w line : List ℕ) → lineServed w (take 178 line) ≡ lineServed w line
+-- What stands behind 717 bytes of a line changes no reply.
+front-served : (w line : List ℕ) → lineServed w (take 717 line) ≡ lineServed w line
 unfolding lineServed
 front-served w line = ap (λ (call : Option Call). serving call w) (front-enough line)
 
@@ -76,20 +76,20 @@ through last s bytes = taken s bytes .output ++ last (taken s bytes .after)
 module _ (last : Session → List ℕ) (answered : List (List ℕ) → List (List ℕ))
     (keeps : (line : List ℕ) (pieces : List (List ℕ)) → 1 ≤ length pieces
     → answered (line ∷ pieces) ≡ line ∷ answered pieces)
-    (ends : (w line : List ℕ) → last (session w (take 178 line)) ≡ asLines (replies w (answered (line ∷ [])))) where
+    (ends : (w line : List ℕ) → last (session w (take 717 line)) ≡ asLines (replies w (answered (line ∷ [])))) where
   abbrev repliesTo : List ℕ → List (List ℕ) → List ℕ
   repliesTo w pieces = asLines (replies w (answered pieces))
 
   feed-ended : (bytes w line : List ℕ)
       → through last (session (lineServed w line .book) []) bytes
       ≡ repliesTo (lineServed w line .book) (begun [] (split (code "\n") bytes))
-      → let s : Session = session w (take 178 line) in
+      → let s : Session = session w (take 717 line) in
       lineEnded s .output ++ through last (lineEnded s .after) bytes
       ≡ repliesTo w (begun line ([] ∷ split (code "\n") bytes))
   feed-ended bytes w line others =
       let pieces : List (List ℕ) = split (code "\n") bytes in
       let ended : LineServed → List ℕ → List ℕ = λ a after. a .text ++ (code "\n" ∷ after) in
-      append-assoc (lineServed w (take 178 line) .text) (code "\n" ∷ []) _
+      append-assoc (lineServed w (take 717 line) .text) (code "\n" ∷ []) _
       ∙ ap (λ (a : LineServed). ended a (through last (session (a .book) []) bytes)) (front-served w line)
       ∙ ap (ended (lineServed w line)) (others ∙ ap (repliesTo (lineServed w line .book)) (begun-empty pieces))
       ∙ ap (λ (lines : List (List ℕ)). asLines (replies w lines))
@@ -98,16 +98,16 @@ module _ (last : Session → List ℕ) (answered : List (List ℕ) → List (Lis
 
   -- The line was begun before, and the pieces of these bytes are the rest of it and the lines after it.
   through-lines : (bytes w line : List ℕ)
-      → through last (session w (take 178 line)) bytes ≡ repliesTo w (begun line (split (code "\n") bytes))
+      → through last (session w (take 717 line)) bytes ≡ repliesTo w (begun line (split (code "\n") bytes))
   through-lines [] w line = ends w line ∙ ap (λ (l : List ℕ). repliesTo w (l ∷ [])) (sym (append-nil line))
   through-lines (b ∷ bytes) w line =
-      let s : Session = session w (take 178 line) in
+      let s : Session = session w (take 717 line) in
       cases (eqb b (code "\n"))
       (λ (e : eqb b (code "\n") ≡ true). rw e
       (append-assoc (lineEnded s .output) (taken (lineEnded s .after) bytes .output) _
       ∙ feed-ended bytes w line (through-lines bytes (lineServed w line .book) [])))
       (λ (e : eqb b (code "\n") ≡ false). rw e
-      (ap (λ (l : List ℕ). through last (session w l) bytes) (take-front 178 line (b ∷ []))
+      (ap (λ (l : List ℕ). through last (session w l) bytes) (take-front 717 line (b ∷ []))
       ∙ through-lines bytes w (line ++ (b ∷ []))
       ∙ ap (repliesTo w) (begun-longer line b (split (code "\n") bytes))))
 
@@ -116,11 +116,11 @@ module _ (last : Session → List ℕ) (answered : List (List ℕ) → List (Lis
   all-lines input = through-lines input zeros [] ∙ ap (repliesTo zeros) (begun-empty (split (code "\n") input))
 
 last-ended : (w line : List ℕ)
-    → closing (session w (take 178 line)) .output ≡ asLines (replies w (withoutEmptyLast (line ∷ [])))
+    → closing (session w (take 717 line)) .output ≡ asLines (replies w (withoutEmptyLast (line ∷ [])))
 last-ended w [] = refl
 last-ended w (b ∷ line) =
-    let s : Session = session w (take 178 (b ∷ line)) in
-    ap (λ (t : Bool). cond t (turn s []) (lineEnded s) .output) (eqb·suc-zero (length (take 177 line)))
+    let s : Session = session w (take 717 (b ∷ line)) in
+    ap (λ (t : Bool). cond t (turn s []) (lineEnded s) .output) (eqb·suc-zero (length (take 716 line)))
     ∙ ap (λ (a : LineServed). a .text ++ (code "\n" ∷ [])) (front-served w (b ∷ line))
 
 -- Where the input ends, what is printed is the script's.

@@ -17,43 +17,46 @@ use Rattle.text.specs.Fields.{Put}
 use Rattle.text.specs.Laws.Putting.{nothing, front, then, length-put}
 use Rattle.text.specs.Laws.Splitting.{Separated, separated}
 use Rattle.text.specs.Laws.Lines.{Without, front-without}
+use Rattle.dispatch.specs.Served.{lineServed, ended}
+use Rattle.dispatch.specs.Replying.{Replied}
 use Rattle.script.specs.Sessions.{Session, session, Turn, turn, printing, lineEnded, taken}
-use Rattle.script.specs.Feeding.{chunk, Turned, Kept, Took, begun, Stopped}
+use Rattle.script.specs.Feeding.{chunk, Kept, Took, begun, Stopped}
 use Rattle.script.specs.Laws.Reading.{taken-append, taken-part}
 use Rattle.script.specs.declared.Progress.{Progress}
 
 -- ---- Keeping a line
 
-module _ (line : List ℕ) (kept : ℕ) (part : List ℕ) (size : length line ≡ 178)
-    (few : kept ≤ 178) {after : List ℕ} {end : ℕ} where
-  pub kept-all : length part < 178 - kept → Put line kept part after end → Kept (take kept line) part after end
+module _ (line : List ℕ) (kept : ℕ) (part : List ℕ) (size : length line ≡ 717)
+    (few : kept ≤ 717) {after : List ℕ} {end : ℕ} where
+  pub kept-all : length part < 717 - kept → Put line kept part after end → Kept (take kept line) part after end
   kept-all less put =
       let fits : kept + length part ≤ length line = omega arith in
-      let head : length (take kept line ++ part) ≤ 178 =
+      let head : length (take kept line ++ part) ≤ 717 =
       omega (arith, length-append (take kept line) part, length-take-le kept line (omega arith)) in (
-        omega (arith, put .behind),
+        (ap length (put .buffer) ∙ length-put line kept part fits ∙ size, omega (arith, put .behind)),
         ap₂ take (put .behind) (put .buffer) ∙ front line kept part fits
-            ∙ sym (take-all 178 (take kept line ++ part) head),
-        ap length (put .buffer) ∙ length-put line kept part fits ∙ size,
+            ∙ sym (take-all 717 (take kept line ++ part) head),
       )
 
-  pub kept-some : 178 - kept ≤ length part → Put line kept (take (178 - kept) part) after end
+  pub kept-some : 717 - kept ≤ length part → Put line kept (take (717 - kept) part) after end
       → Kept (take kept line) part after end
   kept-some more put =
-      let some : length (take (178 - kept) part) ≡ 178 - kept = length-take-le (178 - kept) part more in
-      let fits : kept + length (take (178 - kept) part) ≤ length line = omega arith in
+      let some : length (take (717 - kept) part) ≡ 717 - kept = length-take-le (717 - kept) part more in
+      let fits : kept + length (take (717 - kept) part) ≤ length line = omega arith in
       let head : length (take kept line) ≡ kept = length-take-le kept line (omega arith) in
-      let whole : length (take kept line) + (178 - kept) ≡ 178 = omega arith in (
-        omega (arith, put .behind),
-        ap₂ take (put .behind) (put .buffer) ∙ front line kept (take (178 - kept) part) fits
-            ∙ sym (take-append-add (take kept line) part (178 - kept))
+      let whole : length (take kept line) + (717 - kept) ≡ 717 = omega arith in (
+        (
+          ap length (put .buffer) ∙ length-put line kept (take (717 - kept) part) fits ∙ size,
+          omega (arith, put .behind),
+        ),
+        ap₂ take (put .behind) (put .buffer) ∙ front line kept (take (717 - kept) part) fits
+            ∙ sym (take-append-add (take kept line) part (717 - kept))
             ∙ ap (λ (n : ℕ). take n (take kept line ++ part)) whole,
-        ap length (put .buffer) ∙ length-put line kept (take (178 - kept) part) fits ∙ size,
       )
 
 -- ---- A line of a block
 
-module _ (w line block : List ℕ) (at : ℕ) (few : length line ≤ 178) (within : at ≤ length block) (end : ℕ)
+module _ (w line block : List ℕ) (at : ℕ) (few : length line ≤ 717) (within : at ≤ length block) (end : ℕ)
     (found : end ≡ at + indexOf (code "\n") (slice at (length block) block)) where
   abbrev rest : List ℕ
   rest = drop at block
@@ -66,7 +69,7 @@ module _ (w line block : List ℕ) (at : ℕ) (few : length line ≤ 178) (withi
       omega (arith, found, all)
 
   abbrev longer : List ℕ
-  longer = take 178 (line ++ chunk block at end)
+  longer = take 717 (line ++ chunk block at end)
 
   taken-chunk : taken (session w line) (chunk block at end) ≡ turn (session w longer) []
   taken-chunk =
@@ -95,19 +98,19 @@ module _ (w line block : List ℕ) (at : ℕ) (few : length line ≤ 178) (withi
 
 module _ (at bytes written room : ℕ) where
   pub room-told : at < bytes → written ≤ room
-      → (leb 266 (room - written) ≡ true) ↔ ((at < bytes) × (written + 266 ≤ room))
+      → (leb 359 (room - written) ≡ true) ↔ ((at < bytes) × (written + 359 ≤ room))
   room-told more fits = (
-    λ e. (more, omega (arith, leb-true 266 (room - written) e)),
-    λ p. le-leb 266 (room - written) (omega (arith, p .1)),
+    λ e. (more, omega (arith, leb-true 359 (room - written) e)),
+    λ p. le-leb 359 (room - written) (omega (arith, p .1)),
   )
 
-  pub end-told : bytes ≤ at → (ltb at bytes ≡ true) ↔ ((at < bytes) × (written + 266 ≤ room))
+  pub end-told : bytes ≤ at → (ltb at bytes ≡ true) ↔ ((at < bytes) × (written + 359 ≤ room))
   end-told end = (λ e. absurd (omega (arith, ltb-true at bytes e)), λ p. lt-ltb at bytes (p .0))
 
 -- ---- What `take_line` leaves
 
-module _ (w line block out : List ℕ) (from : Progress) (few : from .kept ≤ 178) (size : length line ≡ 178)
-    (more : from .at < length block) (room : from .written + 266 ≤ length out) (end : ℕ)
+module _ (w line block out : List ℕ) (from : Progress) (few : from .kept ≤ 717) (size : length line ≡ 717)
+    (more : from .at < length block) (room : from .written + 359 ≤ length out) (end : ℕ)
     (found : end ≡ from .at + indexOf (code "\n") (slice (from .at) (length block) block)) where
   abbrev held-back : List ℕ
   held-back = take (from .kept) line
@@ -115,7 +118,7 @@ module _ (w line block out : List ℕ) (from : Progress) (few : from .kept ≤ 1
   abbrev s : Session
   s = session w held-back
 
-  short : length held-back ≤ 178
+  short : length held-back ≤ 717
   short = omega (arith, length-take-le (from .kept) line (omega arith))
 
   module _ (line₁ : List ℕ) (kept : ℕ) (held : Kept held-back (chunk block (from .at) end) line₁ kept) where
@@ -129,7 +132,7 @@ module _ (w line block out : List ℕ) (from : Progress) (few : from .kept ≤ 1
           record {
             forward = omega arith;
             within = omega arith;
-            few = held .0;
+            few = held .0 .1;
             left = ap (λ (t : Turn). t .after) to-end;
             put =
                 subst⁻¹ (λ (t : Turn). Put out (from .written) (t .output) out (from .written)) to-end
@@ -140,8 +143,8 @@ module _ (w line block out : List ℕ) (from : Progress) (few : from .kept ≤ 1
         )
 
     pub took-line : end < length block → {book after : List ℕ} {written : ℕ}
-        → Turned (lineEnded (session w (take kept line₁))) book out (from .written) after written
-        × (written ≤ from .written + 266)
+        → Replied (ended (lineServed w (take kept line₁))) book out (from .written) after written
+        × (written ≤ from .written + 359)
         → Took s block from book line₁ out after (record { at = end + 1; kept = 0; written = written })
         × (from .at < end + 1)
     took-line inside {book} {after} {written} said =
@@ -161,7 +164,7 @@ module _ (w line block out : List ℕ) (from : Progress) (few : from .kept ≤ 1
 
 -- ---- What `feed` leaves
 
-pub took-nothing : (book line block out : List ℕ) (kept : ℕ) → kept ≤ 178
+pub took-nothing : (book line block out : List ℕ) (kept : ℕ) → kept ≤ 717
     → Took (session book (take kept line)) block (begun kept) book line out out (begun kept)
 took-nothing book line block out kept few =
     record {
@@ -211,20 +214,20 @@ module _ {s : Session} {block : List ℕ} {from : Progress} {book line out after
       }
 
 pub stopped : (block out : List ℕ) (p : Progress) {goes : Bool}
-    → (goes ≡ true) ↔ ((p .at < length block) × (p .written + 266 ≤ length out)) → goes ≡ false
+    → (goes ≡ true) ↔ ((p .at < length block) × (p .written + 359 ≤ length out)) → goes ≡ false
     → p .at ≤ length block → Stopped block out p
 stopped block out p told ended within =
     cases (ltb (p .at) (length block))
-    (λ e. cases (leb (p .written + 266) (length out))
+    (λ e. cases (leb (p .written + 359) (length out))
     (λ f. absurd (false≢true (sym ended
-    ∙ told .1 (ltb-true (p .at) (length block) e, leb-true (p .written + 266) (length out) f))))
-    (λ f. inr (leb-false (p .written + 266) (length out) f)))
+    ∙ told .1 (ltb-true (p .at) (length block) e, leb-true (p .written + 359) (length out) f))))
+    (λ f. inr (leb-false (p .written + 359) (length out) f)))
     (λ e. inl (omega (arith, ltb-false (p .at) (length block) e)))
 
 -- Where there are bytes to take, and room for a reply, some are taken.
 pub took-some : {s : Session} {block book line out after : List ℕ} {kept : ℕ} {p : Progress}
     → Took s block (begun kept) book line out after p
-    → Stopped block after p → length after ≡ length out → 0 < length block → 266 ≤ length out → 0 < p .at
+    → Stopped block after p → length after ≡ length out → 0 < length block → 359 ≤ length out → 0 < p .at
 took-some so (inl all) same some room = omega arith
 took-some {s} {block} {p = p} so (inr full) same some room =
     ⊎-elim

@@ -8,7 +8,8 @@ use Rattle.protocol.specs.Laws.Protocol.{clash}
 use Rattle.history.specs.History.{Event, trace}
 use Rattle.lines.specs.Lines.{callIn}
 use Rattle.replies.specs.Printed.{printed}
-use Rattle.script.specs.Script.{LineServed, serving, lineServed, replies}
+use Rattle.dispatch.specs.Served.{LineServed, serving, lineServed}
+use Rattle.script.specs.Script.{replies}
 
 abbrev pub printedAt : Event → List ℕ
 printedAt e = printed (e .outcome .reply) (e .outcome .list)

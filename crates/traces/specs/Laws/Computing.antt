@@ -16,7 +16,7 @@ use Rattle.protocol.specs.Replies.{ok, Served}
 use Rattle.protocol.specs.Ending.{firstBelow, lowestReady}
 use Rattle.protocol.specs.Calls as calls
 use Rattle.protocol.specs.Calls.{badKinds, unsound, empty, setUpReason}
-use Rattle.protocol.specs.Call.{Call, setUp, begin, operate, finish, cancel, contents, desk}
+use Rattle.protocol.specs.Call.{Call, setUp, begin, operate, batch, finish, cancel, contents, desk}
 use Rattle.protocol.specs.Theorems.{set-up-sound, sound-kept}
 use Rattle.protocol.specs.Laws.Reasons.{found-sound}
 use Rattle.protocol.specs.Laws.Leaving.{set-up-served}
@@ -25,10 +25,11 @@ use Rattle.history.specs.History.{Event, trace}
 -- What a call leaves where reason 4 does not apply. `rw` finds it; r, the call itself, keeps `rw` to one side.
 passed : (call : Call) (w : List ℕ)
     → (s : Served) × (unsound whetherSound w ≡ false → (r : Served) → r ≡ desk call w → r ≡ s)
-unfolding calls.setUp calls.begin calls.operate calls.finish calls.cancel calls.contents
+unfolding calls.setUp calls.begin calls.operate calls.batch calls.finish calls.cancel calls.contents
 passed (setUp kinds) w = (_, λ e r p. p)
 passed (begin t) w = (_, λ e r p. rw e at p)
 passed (operate t o number k v) w = (_, λ e r p. rw e at p)
+passed (batch t operations) w = (_, λ e r p. rw e at p)
 passed (finish t list) w = (_, λ e r p. rw e at p)
 passed (cancel t list) w = (_, λ e r p. rw e at p)
 passed (contents o) w = (_, λ e r p. rw e at p)

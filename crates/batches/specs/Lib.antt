@@ -1,0 +1,2 @@
+pub mod Batches
+pub mod Laws

@@ -1,0 +1,3 @@
+pub mod Served
+pub mod Replying
+pub mod Laws
