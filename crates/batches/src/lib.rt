@@ -18,7 +18,7 @@ ghost use Rattle.store.specs.Layout.{BookLong, Packed, base, encode, decode};
 ghost use Rattle.store.specs.Soundness.{Room};
 ghost use Rattle.log.specs.Log.{StoredAs};
 ghost use Rattle.protocol.specs.Calls.{operationsIn, requested as Requested, answerTo, entered, runAll, answersTo};
-ghost use Rattle.protocol.specs.Calls.{awaited};
+ghost use Rattle.protocol.specs.Calls.{operationWords, awaited};
 ghost use Rattle.protocol.specs.Terms.{BatchAccepted};
 ghost use Rattle.protocol.specs.Laws.Lent.{lentAt};
 ghost use Rattle.protocol.specs.ReplyOf.{filled};
@@ -41,7 +41,7 @@ pub fn enter(book: &mut [u32], transaction: u32, object: u32, requested: Operati
 
 // The operation at place i of a batch, as it is stored.
 fn request_at(operations: &[u32], i: usize) -> Operation
-    requires { ⌜ (i < length (now operations) / 4) × Numbered (lentAt (now operations) i .number) ⌝ }
+    requires { ⌜ (i < length (now operations) / operationWords) × Numbered (lentAt (now operations) i .number) ⌝ }
     ensures { λ r. ⌜ StoredAs r (Requested base (lentAt (now (operations .entry)) i)) ⌝ }
 {
     let start = OPERATION_WORDS * i;

@@ -4,8 +4,9 @@ use lines::Line;
 use protocol::Reply;
 ghost use mathlib.Core.Path.{_≡_};
 ghost use mathlib.Core.Option.{some};
-ghost use Prim.Native.Nat.{_+_, _≤_};
+ghost use Prim.Native.Nat.{_+_, _*_, _≤_};
 ghost use lib.ListN.{length};
+ghost use Rattle.protocol.specs.Calls.{operationWords, batchLimit};
 ghost use Rattle.protocol.specs.Call.{batch};
 ghost use Rattle.lines.specs.Lines.{lent};
 ghost use Rattle.lines.specs.Coded.{callOf, wordsOf};
@@ -23,7 +24,7 @@ pub enum Said {
 
 // Makes the call that a line asks for, where it is no batch.
 fn serve(book: &mut [u32], asked: Line, list: &mut [u8]) -> Said
-    requires { ⌜ (now list ≡ lent) × (wordsOf (asked .call) ≤ 64) ⌝ }
+    requires { ⌜ (now list ≡ lent) × (wordsOf (asked .call) ≤ operationWords * batchLimit) ⌝ }
     ensures { λ r. ⌜ CallServed (callOf (asked .call) (asked .kinds) (asked .operations)) (asked .operations)
         (now (book .entry)) (now (book .exit)) (now (list .exit)) r ⌝ }
 {

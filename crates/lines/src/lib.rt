@@ -5,8 +5,9 @@ use protocol::OPERATION_WORDS;
 use text::Number;
 ghost use mathlib.Core.Path.{_≡_};
 ghost use mathlib.Core.List.{List};
-ghost use Prim.Native.Nat.{ℕ, _≤_};
+ghost use Prim.Native.Nat.{ℕ, _*_, _≤_};
 ghost use lib.ListN.{length, take, drop};
+ghost use Rattle.protocol.specs.Calls.{operationWords, batchLimit};
 ghost use Rattle.lines.specs.Lines.{asked, setUpOf, batchOf, callIn};
 ghost use Rattle.lines.specs.Coded.{callOf, wordsOf, argumentsOf, few, behind};
 
@@ -97,7 +98,7 @@ fn read_arguments(line: &[u8]) -> Arguments
 fn set_up(count: usize, values: [u32; MOST_ARGUMENTS]) -> Line
     requires { ⌜ count ≤ 65 ⌝ }
     ensures { λ r. ⌜ (callOf (r .call) (r .kinds) (r .operations) ≡ setUpOf (take count values))
-        × (wordsOf (r .call) ≤ 64) ⌝ }
+        × (wordsOf (r .call) ≤ operationWords * batchLimit) ⌝ }
 {
     if OBJECTS < count {
         return unread();
@@ -132,7 +133,7 @@ fn rest(values: [u32; MOST_ARGUMENTS]) -> [u32; MOST_OPERATIONS]
 fn batch(count: usize, values: [u32; MOST_ARGUMENTS]) -> Line
     requires { ⌜ count ≤ 65 ⌝ }
     ensures { λ r. ⌜ (callOf (r .call) (r .kinds) (r .operations) ≡ batchOf (take count values))
-        × (wordsOf (r .call) ≤ 64) ⌝ }
+        × (wordsOf (r .call) ≤ operationWords * batchLimit) ⌝ }
 {
     if count == 0 {
         return unread();
@@ -152,7 +153,7 @@ fn batch(count: usize, values: [u32; MOST_ARGUMENTS]) -> Line
 fn call_of(letter: u8, count: usize, values: [u32; MOST_ARGUMENTS]) -> Call
     requires { ⌜ (count ≤ 65) × (letter ≡ 83 → ⊥) × (letter ≡ 71 → ⊥) ⌝ }
     ensures { λ r. ⌜ ((kinds operations : List ℕ) → callOf r kinds operations ≡ asked letter (take count values))
-        × (wordsOf r ≤ 64) ⌝ }
+        × (wordsOf r ≤ operationWords * batchLimit) ⌝ }
 {
     if letter == b'I' && count == 5 {
         return Call::Operate(values[0], values[1], values[2], values[3], values[4]);
@@ -172,7 +173,7 @@ fn call_of(letter: u8, count: usize, values: [u32; MOST_ARGUMENTS]) -> Call
 // A batch counts no more words than `operations` has.
 pub fn read_line(line: &[u8]) -> Line
     ensures { λ r. ⌜ (callOf (r .call) (r .kinds) (r .operations) ≡ callIn (now (line .entry)))
-        × (wordsOf (r .call) ≤ 64) ⌝ }
+        × (wordsOf (r .call) ≤ operationWords * batchLimit) ⌝ }
 {
     if line.len() == 0 {
         return unread();

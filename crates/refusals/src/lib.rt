@@ -12,8 +12,9 @@ ghost use lib.ListN.{length, take};
 ghost use Rattle.store.specs.Layout.{base, decode, readKind, Packed};
 ghost use Rattle.store.specs.Decisions.{whetherSound};
 ghost use Rattle.store.specs.Soundness.{Sound};
-ghost use Rattle.protocol.specs.Calls.{lentOperation, operationsIn, someAbove, isOf, ownReasons, first, setUpReason};
-ghost use Rattle.protocol.specs.Calls.{beginReason, batchReason, operateReason, endReason, contentsReason};
+ghost use Rattle.protocol.specs.Calls.{lentOperation, operationWords, batchLimit, operationsIn, someAbove, isOf};
+ghost use Rattle.protocol.specs.Calls.{ownReasons, first, setUpReason, beginReason, batchReason, operateReason};
+ghost use Rattle.protocol.specs.Calls.{endReason, contentsReason};
 ghost use Rattle.protocol.specs.Laws.Reasons.{Silent};
 ghost use Rattle.protocol.specs.Laws.Lent.{neededOf};
 ghost use Rattle.refusals.specs.Reasons.{askerReasons, rowLimits};
@@ -74,8 +75,8 @@ fn is_of(kind: u32, number: u32) -> bool
 }
 
 // Reasons 1, 4, 5, 12 and 7, of operate and of batch. Whether too many operations are lent is handed in.
-fn asker(book: &[u32], transaction: u32, crowd: bool) -> u32
-    ensures { λ r. ⌜ r ≡ first (askerReasons (now (book .entry)) transaction crowd) ⌝ }
+fn asker(book: &[u32], transaction: u32, many: bool) -> u32
+    ensures { λ r. ⌜ r ≡ first (askerReasons (now (book .entry)) transaction many) ⌝ }
 {
     if book.len() != layout::WORDS {
         return protocol::WRONG_LENGTH;
@@ -86,7 +87,7 @@ fn asker(book: &[u32], transaction: u32, crowd: bool) -> u32
     if transaction > LAST_TRANSACTION {
         return protocol::NO_SUCH_TRANSACTION;
     }
-    if crowd {
+    if many {
         return protocol::TOO_MANY;
     }
     if statuses::status_word(book, transaction) != statuses::ACTIVE {
@@ -157,7 +158,7 @@ fn first_own(book: &[u32], operations: &[u32]) -> u32
 
 // How many rows the first operations of a batch may need of an object.
 fn needed_before(operations: &[u32], count: usize, object: u32) -> usize
-    requires { ⌜ 4 * count ≤ length (now operations) ⌝ }
+    requires { ⌜ operationWords * count ≤ length (now operations) ⌝ }
     ensures { λ r. ⌜ (r ≡ neededOf object (take count (operationsIn (now (operations .entry))))) × (r ≤ count) ⌝ }
 {
     let mut needed: usize = 0;
@@ -191,7 +192,7 @@ fn fits(book: &[u32], operations: &[u32]) -> bool
 
 // Whether so many words are more operations than a batch may have, or have a part of one at their end.
 fn too_many(words: usize) -> bool
-    ensures { λ r. ⌜ r ≡ ltb 64 words || not (eqb (words % 4) 0) ⌝ }
+    ensures { λ r. ⌜ r ≡ ltb (operationWords * batchLimit) words || not (eqb (words % operationWords) 0) ⌝ }
 {
     if words > OPERATION_WORDS * protocol::BATCH {
         return true;

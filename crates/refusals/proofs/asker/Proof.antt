@@ -22,7 +22,7 @@ start c = c .before .before .before .before .before .before
 past-number : (c : tie.Else4) {r later : ℕ} → r ≡ later
     → r ≡ cond (calls.wrongLength (book (start c))) 1
     (cond (calls.unsound whetherSound (book (start c))) 4
-    (cond (calls.aboveLast (start c .args .transaction)) 5 (cond (start c .args .crowd) 12 later)))
+    (cond (calls.aboveLast (start c .args .transaction)) 5 (cond (start c .args .many) 12 later)))
 past-number c rest =
     let inside = c .before in
     let called = inside .before .before in
@@ -44,8 +44,8 @@ above-last c =
     (called .sound .ensures) (c .before .if2 .left)
     (applies _ _ (lt-ltb 63 _ (c .if3 .taken)))
 
-many : tie.Need-returns-4
-many c =
+too-many : tie.Need-returns-4
+too-many c =
     let inside = c .before in
     let called = inside .before .before in
     past-last (book (called .before .before .before)) (called .before .if1 .left) (called .sound .ensures)
@@ -73,7 +73,7 @@ asker-spec =
     (λ c κs. search needs)
     unsound
     above-last
-    many
+    too-many
     (λ c κs. search needs)
     not-open
     accepted)
