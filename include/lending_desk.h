@@ -6,6 +6,9 @@
  *
  * What no call can test, and a program must see to: a pointer is not null, not even with length 0; what it points to is of at least the length
  * given, aligned for its type, and lent to one call at a time; book, kinds, operations and list don't overlap.
+ *
+ * A journal is bytes, the records of calls one behind the other; docs/JOURNAL.md has its format. What is read and
+ * written of it needs no book.
  */
 #ifndef LENDING_DESK_H
 #define LENDING_DESK_H
@@ -19,16 +22,18 @@ extern "C" {
 
 /* The version of book, calls and replies, for books and programs that outlive one version: 1 is the base's, and each
  * change request raises it. A macro, so that #if can ask for it. */
-#define LENDING_DESK_VERSION 3
+#define LENDING_DESK_VERSION 4
 
 enum {
-    LENDING_DESK_WORDS = 3937,        /* words of a book */
-    LENDING_DESK_HANDOUTS = 64,       /* handouts 0 to 63 */
-    LENDING_DESK_OBJECTS = 16,        /* objects 0 to 15, each of a kind */
-    LENDING_DESK_LIST = 64,           /* bytes that the list lent to finish and cancel has at least */
-    LENDING_DESK_BATCH = 16,          /* operations that a batch has at the most */
-    LENDING_DESK_OPERATION_WORDS = 4, /* words of each: object, operation, key or item, value */
-    LENDING_DESK_FRAME = 12288        /* bytes of stack that a call takes at the most: measured, and not proved */
+    LENDING_DESK_WORDS = 3937,          /* words of a book */
+    LENDING_DESK_HANDOUTS = 64,         /* handouts 0 to 63 */
+    LENDING_DESK_OBJECTS = 16,          /* objects 0 to 15, each of a kind */
+    LENDING_DESK_LIST = 64,             /* bytes that the list lent to finish and cancel has at least */
+    LENDING_DESK_BATCH = 16,            /* operations that a batch has at the most */
+    LENDING_DESK_OPERATION_WORDS = 4,   /* words of each: object, operation, key or item, value */
+    LENDING_DESK_RECORD_ARGUMENTS = 65, /* numbers that a record's call has at the most, which is a batch */
+    LENDING_DESK_RECORD_BYTES = 488,    /* bytes that a record has at the most */
+    LENDING_DESK_FRAME = 12288          /* bytes of stack that a call takes at the most: measured, and not proved */
 };
 
 /* Kinds of objects, for set up. */
@@ -78,7 +83,20 @@ enum {
     LENDING_DESK_WRONG_OPERATION = 9, /* the operation isn't one of the object's kind */
     LENDING_DESK_LOG_FULL = 10,       /* the log holds 256 entries, or would hold more with the batch */
     LENDING_DESK_NO_ROOM = 11,        /* rows plus pushes and inserts of the object, logged or before it, are at 64 */
-    LENDING_DESK_BATCH_LENGTH = 12    /* more than LENDING_DESK_BATCH operations, or a part of one */
+    LENDING_DESK_BATCH_LENGTH = 12,   /* more than LENDING_DESK_BATCH operations, or a part of one */
+    LENDING_DESK_BAD_RECORD = 13      /* of a journal: bytes that are no record, or a record that has no bytes */
+};
+
+/* Why bytes are no record. */
+enum {
+    LENDING_DESK_CUT = 1,        /* they end inside it */
+    LENDING_DESK_BAD_LETTER = 2, /* no call has the letter */
+    LENDING_DESK_BAD_CODE = 3,   /* no call of the letter gives the reply code */
+    LENDING_DESK_BAD_OWNERS = 4, /* an owner is above 63, or not above the one before */
+    LENDING_DESK_BAD_LIST = 5,   /* more than 64 owners, or handouts in a list */
+    LENDING_DESK_BAD_BATCH = 6,  /* more than LENDING_DESK_BATCH operations */
+    LENDING_DESK_LONG_FORM = 7,  /* a number in more groups than it needs */
+    LENDING_DESK_BAD_WIDTH = 8   /* a number of more than 32 bits, or of more than five groups */
 };
 
 /* A field that a reply has no number for is 0. */
@@ -124,6 +142,41 @@ typedef struct {
     uint32_t rows;  /* how many there are, two words each */
 } lending_desk_part;
 
+/* A call and its reply, as a journal has them. What the letter and the reply code don't need isn't looked at when a
+ * record is written, and may be any number in one that was read. The arguments are, for S, 16 kinds; for I, handout,
+ * object, operation, key or item, value; for G, the handout, then the last four of these for each operation; for B, F
+ * and C, the handout. */
+typedef struct {
+    uint8_t letter;       /* the call's in scripts */
+    size_t operations;    /* of a batch: how many there are */
+    uint32_t arguments[LENDING_DESK_RECORD_ARGUMENTS];
+    uint32_t code;        /* the reply code, which S and B don't have */
+    uint64_t owners;      /* of a wait: as above */
+    size_t listed;        /* of finish and cancel: how many handouts committed, at most 64 */
+    uint32_t numbers[64]; /* these, in order; answered: code and value of the answer, of a batch those of each */
+} lending_desk_record;
+
+typedef struct {
+    uint32_t refusal;
+    size_t count;                             /* how many bytes the record has; the others are 0 */
+    uint8_t bytes[LENDING_DESK_RECORD_BYTES];
+} lending_desk_written;
+
+typedef struct {
+    uint32_t refusal;
+    uint32_t found; /* 1 where there is a record, 0 at the end of the bytes */
+    uint32_t cause; /* of a refusal: why */
+    size_t place;   /* of a record: that behind it; of a refusal: that of the letter or number that can't be read */
+    lending_desk_record record; /* any numbers where there is none */
+} lending_desk_reading;
+
+typedef struct {
+    uint32_t refusal;
+    uint32_t cause; /* of a refusal: why */
+    size_t place;   /* of a refusal: that of the letter or number that can't be read */
+    size_t records; /* how many there are */
+} lending_desk_counted;
+
 /* Writes an empty book of these kinds over any contents. Refusals: 1, 3. */
 lending_desk_accepted lending_desk_set_up(uint32_t *book, size_t words, const uint8_t *kinds, size_t count);
 
@@ -152,6 +205,16 @@ lending_desk_ended lending_desk_cancel(uint32_t *book, size_t words, uint32_t ha
 /* Where the committed rows of an object stand in the book: a stack's are item and 0, bottom first; a set's key and 0, and a table's key and value,
  * by ascending keys. Refusals: 1, 4, 8. */
 lending_desk_part lending_desk_contents(const uint32_t *book, size_t words, uint32_t object);
+
+/* The bytes of a record, or none for one that couldn't be read back. Refusals: 13. */
+lending_desk_written lending_desk_write_record(lending_desk_record record);
+
+/* The record that starts at a place of any bytes, the end for a place at their end or behind it. A journal is gone
+ * through from place 0, each record's place being the next one's. Refusals: 13. */
+lending_desk_reading lending_desk_next_record(const uint8_t *bytes, size_t length, size_t at);
+
+/* How many records any bytes are. Refusals: 13. */
+lending_desk_counted lending_desk_count_records(const uint8_t *bytes, size_t length);
 
 #ifdef __cplusplus
 }

@@ -7,6 +7,7 @@ mod calls;
 #[path = "../../reference/tests/common/draws.rs"]
 mod draws;
 mod programs;
+mod records;
 mod rows;
 mod scripts;
 mod stack;
@@ -42,7 +43,12 @@ fn times(part: &str) {
     for (row, times) in rows.iter().zip(calls) {
         print(&row.name, times);
     }
-    for profile in scripts::PROFILES.iter().filter(|profile| profile.name.contains(part)) {
+    if records::named(part).count() > 0 {
+        let sample = records::Sample::drawn();
+        records::named(part).for_each(|row| print(row.name, records::times(row, &sample)));
+    }
+    let profiles = || scripts::PROFILES.iter().filter(|profile| profile.name.contains(part));
+    for profile in profiles() {
         print(profile.name, programs::times(profile));
     }
     if ratios.is_empty() {
@@ -53,6 +59,15 @@ fn times(part: &str) {
     let mean = (ratios.iter().map(|ratio| ratio.ln()).sum::<f64>() / ratios.len() as f64).exp();
     println!("worst ratio {worst:.2}, mean ratio {mean:.2}; one pass {pass:.0}");
     batches_beside_singles(rows.iter().zip(prepared).filter(|(row, _)| row.is_for_singles()));
+    profiles().for_each(journal_added);
+}
+
+/// What the journal adds to a script that the proved program serves. On disk it is waited for at each block of input.
+fn journal_added(profile: &scripts::Profile) {
+    for (place, [without, with]) in programs::journal_times(profile) {
+        let (name, ratio) = (profile.name, with / without);
+        println!("{name}: {without:.0}, with a journal {place}, fdatasync among it, {with:.0}, ratio {ratio:.2}");
+    }
 }
 
 /// What a batch costs beside its operations made singly on the same book, both by the proved library.
@@ -72,6 +87,14 @@ fn stack(part: &str) {
         let [proved, second] = stack::used(&row.prepared());
         println!("{:36}{proved:10}{second:10}", row.name);
         assert!(proved <= lending_desk::FRAME, "{}: more stack than the header says", row.name);
+    }
+    if records::named(part).count() > 0 {
+        let sample = records::Sample::drawn();
+        for row in records::named(part) {
+            let [proved, second] = row.sides.map(|side| stack::used_by(|| side(&sample)));
+            println!("{:36}{proved:10}{second:10}", row.name);
+            assert!(proved <= lending_desk::FRAME, "{}: more stack than the header says", row.name);
+        }
     }
 }
 

@@ -13,19 +13,29 @@ const PAINT: u8 = 0xC5;
 
 /// Bytes of stack below the caller's frame, proved and second.
 pub fn used(row: &Prepared) -> [usize; 2] {
-    [calls::proved, calls::second].map(|serve| {
-        thread::scope(|scope| {
-            let deepest = scope.spawn(|| (deepest(calls::nothing, row), deepest(serve, row)));
-            let (none, deep) = deepest.join().expect("a stack that is large enough");
-            deep - none
-        })
-    })
+    [calls::proved, calls::second].map(|serve| on_own_stack(|| deepest(serve, row) - deepest(calls::nothing, row)))
+}
+
+/// The same of any work.
+pub fn used_by(work: impl Fn() + Sync) -> usize {
+    on_own_stack(|| deepest_of(&work) - deepest_of(|| ()))
+}
+
+fn on_own_stack(measured: impl Fn() -> usize + Sync) -> usize {
+    thread::scope(|scope| scope.spawn(&measured).join().expect("a stack that is large enough"))
 }
 
 fn deepest(serve: Serve, row: &Prepared) -> usize {
     let (mut book, mut list) = (row.book.clone(), [0; 64]);
     painted(true);
     serve(&row.call, &mut book, &mut list);
+    painted(false)
+}
+
+#[inline(never)]
+fn deepest_of(work: impl Fn()) -> usize {
+    painted(true);
+    work();
     painted(false)
 }
 

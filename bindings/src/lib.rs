@@ -3,16 +3,19 @@
 //! A book is a lent slice of [`WORDS`] words; [`set_up`] writes an empty one over any contents. Any slices and any numbers may be handed over: a
 //! call that can't be served says why and changes nothing. What each call does is a definition, and that it does so is proved of the library
 //! beneath. This package only hands slices over and replies back; a slice is never null, so no null pointer gets there.
+//!
+//! Calls and replies can be kept in a [`journal`].
 
 use std::ops::Deref;
 
 pub use raw::Answer;
 
+pub mod journal;
 pub mod raw;
 
 /// The version of book, calls and replies, for books and programs that outlive one version: 1 is the base's, and each
 /// change request raises it.
-pub const VERSION: u32 = 3;
+pub const VERSION: u32 = 4;
 
 /// Words of a book.
 pub const WORDS: usize = 3937;
@@ -31,6 +34,12 @@ pub const BATCH: usize = 16;
 
 /// Words that an operation of a batch is handed over as.
 pub const OPERATION_WORDS: usize = 4;
+
+/// How many numbers a record's call has at the most, which is a batch.
+pub const RECORD_ARGUMENTS: usize = 65;
+
+/// Bytes that a record has at the most.
+pub const RECORD_BYTES: usize = 488;
 
 /// Bytes of stack that a call takes at the most: measured, and not proved. The library asks for no other memory.
 pub const FRAME: usize = 12_288;

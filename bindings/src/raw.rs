@@ -1,6 +1,6 @@
 //! The proved library's functions and the structs that they return, as `include/lending_desk.h` declares them.
 
-use crate::BATCH;
+use crate::{BATCH, LIST, RECORD_ARGUMENTS, RECORD_BYTES};
 
 /// What set up and begin reply.
 #[repr(C)]
@@ -58,8 +58,64 @@ pub struct Part {
     pub rows: u32,
 }
 
+/// A call and its reply, as a journal has them. What the letter and the reply code don't need isn't looked at.
+#[repr(C)]
+#[derive(Clone, Copy, Debug, PartialEq, Eq)]
+pub struct Record {
+    pub letter: u8,
+    pub operations: usize,
+    pub arguments: [u32; RECORD_ARGUMENTS],
+    pub code: u32,
+    pub owners: u64,
+    pub listed: usize,
+    pub numbers: [u32; LIST],
+}
+
+impl Default for Record {
+    fn default() -> Record {
+        let (arguments, numbers) = ([0; RECORD_ARGUMENTS], [0; LIST]);
+        Record { letter: 0, operations: 0, arguments, code: 0, owners: 0, listed: 0, numbers }
+    }
+}
+
+/// A record's bytes.
+#[repr(C)]
+#[derive(Clone, Copy, Debug, PartialEq, Eq)]
+pub struct Written {
+    pub refusal: u32,
+    pub count: usize,
+    pub bytes: [u8; RECORD_BYTES],
+}
+
+impl Default for Written {
+    fn default() -> Written {
+        Written { refusal: 0, count: 0, bytes: [0; RECORD_BYTES] }
+    }
+}
+
+/// What stands at a place of a journal.
+#[repr(C)]
+#[derive(Clone, Copy, Debug, Default, PartialEq, Eq)]
+pub struct Reading {
+    pub refusal: u32,
+    pub found: u32,
+    pub cause: u32,
+    pub place: usize,
+    pub record: Record,
+}
+
+/// How many records a journal has.
+#[repr(C)]
+#[derive(Clone, Copy, Debug, Default, PartialEq, Eq)]
+pub struct Counted {
+    pub refusal: u32,
+    pub cause: u32,
+    pub place: usize,
+    pub records: usize,
+}
+
 mod linked {
-    use super::{Accepted, Batched, Ended, Operated, Part};
+    use super::{Accepted, Batched, Counted, Ended, Operated, Part, Reading, Record, Written};
 
     extern "C" {
         pub fn lending_desk_set_up(book: *mut u32, words: usize, kinds: *const u8, count: usize) -> Accepted;
@@ -83,6 +139,9 @@ mod linked {
         pub fn lending_desk_finish(book: *mut u32, words: usize, handout: u32, list: *mut u8, length: usize) -> Ended;
         pub fn lending_desk_cancel(book: *mut u32, words: usize, handout: u32, list: *mut u8, length: usize) -> Ended;
         pub fn lending_desk_contents(book: *const u32, words: usize, object: u32) -> Part;
+        pub fn lending_desk_write_record(record: Record) -> Written;
+        pub fn lending_desk_next_record(bytes: *const u8, length: usize, at: usize) -> Reading;
+        pub fn lending_desk_count_records(bytes: *const u8, length: usize) -> Counted;
     }
 }
 
@@ -116,4 +175,16 @@ pub fn cancel(book: &mut [u32], handout: u32, list: &mut [u8]) -> Ended {
 
 pub fn contents(book: &[u32], object: u32) -> Part {
     unsafe { linked::lending_desk_contents(book.as_ptr(), book.len(), object) }
+}
+
+pub fn write_record(record: Record) -> Written {
+    unsafe { linked::lending_desk_write_record(record) }
+}
+
+pub fn next_record(bytes: &[u8], at: usize) -> Reading {
+    unsafe { linked::lending_desk_next_record(bytes.as_ptr(), bytes.len(), at) }
+}
+
+pub fn count_records(bytes: &[u8]) -> Counted {
+    unsafe { linked::lending_desk_count_records(bytes.as_ptr(), bytes.len()) }
 }

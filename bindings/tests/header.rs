@@ -8,9 +8,10 @@ use std::process::{Command, Output};
 use std::ptr::addr_of;
 
 use common::{built, printed, run};
-use lending_desk::raw::{Accepted, Answer, Batched, Ended, Operated, Part};
+use lending_desk::journal::Cause;
+use lending_desk::raw::{Accepted, Answer, Batched, Counted, Ended, Operated, Part, Reading, Record, Written};
 
-const NUMBERS: [(&str, usize); 42] = [
+const NUMBERS: [(&str, usize); 53] = [
     ("VERSION", lending_desk::VERSION as usize),
     ("WORDS", lending_desk::WORDS),
     ("HANDOUTS", lending_desk::HANDOUTS),
@@ -18,6 +19,8 @@ const NUMBERS: [(&str, usize); 42] = [
     ("LIST", lending_desk::LIST),
     ("BATCH", lending_desk::BATCH),
     ("OPERATION_WORDS", lending_desk::OPERATION_WORDS),
+    ("RECORD_ARGUMENTS", lending_desk::RECORD_ARGUMENTS),
+    ("RECORD_BYTES", lending_desk::RECORD_BYTES),
     ("FRAME", lending_desk::FRAME),
     ("NONE", 0),
     ("STACK", 1),
@@ -53,6 +56,15 @@ const NUMBERS: [(&str, usize); 42] = [
     ("LOG_FULL", 10),
     ("NO_ROOM", 11),
     ("BATCH_LENGTH", 12),
+    ("BAD_RECORD", 13),
+    ("CUT", Cause::Cut as usize),
+    ("BAD_LETTER", Cause::Letter as usize),
+    ("BAD_CODE", Cause::Code as usize),
+    ("BAD_OWNERS", Cause::Owners as usize),
+    ("BAD_LIST", Cause::List as usize),
+    ("BAD_BATCH", Cause::Batch as usize),
+    ("LONG_FORM", Cause::LongForm as usize),
+    ("BAD_WIDTH", Cause::Width as usize),
 ];
 
 /// A struct of the wrapper: the header's name for it, its size, and the offsets of its fields.
@@ -67,7 +79,7 @@ macro_rules! layout {
     }};
 }
 
-fn layouts() -> [Layout; 6] {
+fn layouts() -> [Layout; 10] {
     [
         layout!("lending_desk_accepted", Accepted { refusal }),
         layout!("lending_desk_operated", Operated { refusal, code, owners, count, answer, value }),
@@ -75,19 +87,30 @@ fn layouts() -> [Layout; 6] {
         layout!("lending_desk_batched", Batched { refusal, code, owners, count, answers }),
         layout!("lending_desk_ended", Ended { refusal, code, count }),
         layout!("lending_desk_part", Part { refusal, start, rows }),
+        layout!("lending_desk_record", Record { letter, operations, arguments, code, owners, listed, numbers }),
+        layout!("lending_desk_written", Written { refusal, count, bytes }),
+        layout!("lending_desk_reading", Reading { refusal, found, cause, place, record }),
+        layout!("lending_desk_counted", Counted { refusal, cause, place, records }),
     ]
 }
 
-/// Where the last answer to a batch stands: 20 bytes are before the first.
-const LAST_ANSWER: [(&str, usize); 2] =
-    [("answers[LENDING_DESK_BATCH - 1].code", 20 + 15 * 8), ("answers[LENDING_DESK_BATCH - 1].value", 20 + 15 * 8 + 4)];
+/// Where the last parts of arrays stand. Before the first answer to a batch are 20 bytes; before a record's first argument
+/// 16, before its first number 296; before the record of a reading 24; before the first byte written 16.
+const LAST: [(&str, usize); 7] = [
+    ("lending_desk_batched, answers[LENDING_DESK_BATCH - 1].code", 20 + 15 * 8),
+    ("lending_desk_batched, answers[LENDING_DESK_BATCH - 1].value", 20 + 15 * 8 + 4),
+    ("lending_desk_record, arguments[LENDING_DESK_RECORD_ARGUMENTS - 1]", 16 + 64 * 4),
+    ("lending_desk_record, numbers[63]", 296 + 63 * 4),
+    ("lending_desk_reading, record.letter", 24),
+    ("lending_desk_reading, record.numbers[63]", 24 + 296 + 63 * 4),
+    ("lending_desk_written, bytes[LENDING_DESK_RECORD_BYTES - 1]", 16 + 487),
+];
 
 /// Expressions of C, and what they must be when compiled.
 fn expectations() -> Vec<(String, usize)> {
     let mut expected = vec![("sizeof(size_t)".to_string(), size_of::<usize>())];
     expected.extend(NUMBERS.map(|(name, number)| (format!("LENDING_DESK_{name}"), number)));
-    let answers = LAST_ANSWER.map(|(place, offset)| (format!("offsetof(lending_desk_batched, {place})"), offset));
-    expected.extend(answers);
+    expected.extend(LAST.map(|(place, offset)| (format!("offsetof({place})"), offset)));
     for (name, size, offsets) in layouts() {
         expected.push((format!("sizeof({name})"), size));
         expected.extend(offsets.into_iter().map(|(field, offset)| (format!("offsetof({name}, {field})"), offset)));
@@ -95,7 +118,8 @@ fn expectations() -> Vec<(String, usize)> {
     expected
 }
 
-/// A program that compiles only where the expectations hold, and ends well where a batch of two is answered.
+/// A program that compiles only where the expectations hold, and ends well where a batch of two is answered, and its record
+/// is written and read back.
 fn program(expectations: &[(String, usize)]) -> String {
     let mut text = "#include \"lending_desk.h\"\n#if LENDING_DESK_VERSION < 1\n#error no version\n#endif\n".to_string();
     for (number, (expression, expected)) in expectations.iter().enumerate() {
@@ -104,14 +128,41 @@ fn program(expectations: &[(String, usize)]) -> String {
     text + "static uint32_t book[LENDING_DESK_WORDS];\n\
         static const uint8_t kinds[LENDING_DESK_OBJECTS] = {1, 2, 3};\n\
         static const uint32_t operations[2 * LENDING_DESK_OPERATION_WORDS] = {0, 1, 7, 0, 0, 3, 0, 0};\n\
-        int main(void) {\n\
+        static lending_desk_record record;\n\
+        static int answered(void) {\n\
             lending_desk_batched reply;\n\
             lending_desk_set_up(book, LENDING_DESK_WORDS, kinds, LENDING_DESK_OBJECTS);\n\
             lending_desk_begin(book, LENDING_DESK_WORDS, 63);\n\
             reply = lending_desk_batch(book, LENDING_DESK_WORDS, 63, operations, 2 * LENDING_DESK_OPERATION_WORDS);\n\
-            return !(reply.refusal == 0 && reply.code == LENDING_DESK_ANSWERED && reply.owners == 0 &&\n\
-                     reply.count == 2 && reply.answers[0].code == 1 && reply.answers[0].value == 0 &&\n\
-                     reply.answers[1].code == 1 && reply.answers[1].value == 7 && reply.answers[15].code == 0);\n\
+            return reply.refusal == 0 && reply.code == LENDING_DESK_ANSWERED && reply.owners == 0 &&\n\
+                   reply.count == 2 && reply.answers[0].code == 1 && reply.answers[0].value == 0 &&\n\
+                   reply.answers[1].code == 1 && reply.answers[1].value == 7 && reply.answers[15].code == 0;\n\
+        }\n\
+        static int read_back(void) {\n\
+            lending_desk_written written;\n\
+            lending_desk_reading reading;\n\
+            lending_desk_counted counted;\n\
+            int i;\n\
+            record.letter = 'G';\n\
+            record.operations = 2;\n\
+            record.arguments[0] = 63;\n\
+            for (i = 0; i < 8; i++) record.arguments[1 + i] = operations[i];\n\
+            record.code = LENDING_DESK_ANSWERED;\n\
+            record.numbers[0] = 1;\n\
+            record.numbers[2] = 1;\n\
+            record.numbers[3] = 300;\n\
+            written = lending_desk_write_record(record);\n\
+            reading = lending_desk_next_record(written.bytes, written.count, 0);\n\
+            counted = lending_desk_count_records(written.bytes, written.count - 1);\n\
+            return written.refusal == 0 && written.count == 17 && written.bytes[16] == 2 && reading.refusal == 0 &&\n\
+                   reading.found == 1 && reading.place == 17 && reading.record.letter == 'G' &&\n\
+                   reading.record.operations == 2 && reading.record.arguments[8] == 0 &&\n\
+                   reading.record.arguments[0] == 63 && reading.record.numbers[3] == 300 &&\n\
+                   counted.refusal == LENDING_DESK_BAD_RECORD && counted.cause == LENDING_DESK_CUT &&\n\
+                   counted.place == 15 && lending_desk_count_records(written.bytes, written.count).records == 1;\n\
+        }\n\
+        int main(void) {\n\
+            return !(answered() && read_back());\n\
         }\n"
 }
 

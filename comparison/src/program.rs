@@ -1,6 +1,7 @@
 //! Running a script program.
 
 use std::env;
+use std::ffi::OsStr;
 use std::fs::{self, File};
 use std::io::{self, Seek, SeekFrom, Write};
 use std::path::{Path, PathBuf};
@@ -42,9 +43,19 @@ impl Program {
     }
 
     pub fn start(&self, input: Stdio, output: Stdio) -> Child {
+        self.start_with(&[], input, output)
+    }
+
+    /// Starts it with words, a file's name among them.
+    pub fn start_with(&self, words: &[&OsStr], input: Stdio, output: Stdio) -> Child {
         let mut command = Command::new(&self.0);
-        command.env_clear().stdin(input).stdout(output).stderr(Stdio::piped());
+        command.args(words).env_clear().stdin(input).stdout(output).stderr(Stdio::piped());
         command.spawn().unwrap_or_else(|error| panic!("{} does not start: {error}", self.0.display()))
+    }
+
+    /// Where it is.
+    pub fn path(&self) -> &Path {
+        &self.0
     }
 
     /// What is printed for an input that a pipe holds. A program that stops reading shows by what it prints.
@@ -86,14 +97,15 @@ pub fn take_input(program: &mut Child) -> ChildStdin {
     program.stdin.take().expect("piped")
 }
 
-fn temporary_path(name: &str) -> PathBuf {
+/// A path in a folder that no file has.
+pub fn new_path(folder: &Path, name: &str) -> PathBuf {
     static COUNT: AtomicUsize = AtomicUsize::new(0);
     let number = COUNT.fetch_add(1, Ordering::Relaxed);
-    env::temp_dir().join(format!("lending_desk-{}-{number}-{name}", process::id()))
+    folder.join(format!("lending_desk-{}-{number}-{name}", process::id()))
 }
 
 fn unnamed_file(bytes: &[u8]) -> io::Result<File> {
-    let path = temporary_path("input");
+    let path = new_path(&env::temp_dir(), "input");
     let mut file = File::options().read(true).write(true).create_new(true).open(&path)?;
     fs::remove_file(&path)?;
     file.write_all(bytes)?;
@@ -103,7 +115,7 @@ fn unnamed_file(bytes: &[u8]) -> io::Result<File> {
 
 /// Keeps bytes for whoever wants to look into a failure, and says where.
 pub fn saved(name: &str, bytes: &[u8]) -> String {
-    let path = temporary_path(name);
+    let path = new_path(&env::temp_dir(), name);
     match fs::write(&path, bytes) {
         Ok(()) => path.display().to_string(),
         Err(error) => format!("{} could not be written: {error}", path.display()),

@@ -2,7 +2,7 @@
 
 use std::env;
 use std::fs::{self, File, OpenOptions};
-use std::io::Write;
+use std::io::{BufRead, BufReader, Write};
 use std::os::unix::fs::symlink;
 use std::path::{Path, PathBuf};
 use std::process::{Command, Output, Stdio};
@@ -69,9 +69,9 @@ fn help() -> String {
 }
 
 #[test]
-fn desk_says_the_calls_and_replies_in_twenty_lines() {
+fn desk_says_the_calls_and_replies_in_thirty_lines() {
     let help = help();
-    assert!(help.lines().count() <= 20);
+    assert!(help.lines().count() <= 30);
     assert!(help.lines().all(|line| line.chars().count() <= 120));
     for letter in ["S KIND", "B HANDOUT", "I HANDOUT", "G HANDOUT", "F HANDOUT", "C HANDOUT"] {
         assert!(help.contains(&format!("  {letter}")), "{letter}");
@@ -111,6 +111,7 @@ fn desk_says_what_each_refusal_means() {
     }
     numbers.sort_unstable();
     assert!(numbers.into_iter().eq(1..=12), "the README has all of them");
+    assert!(help.contains(" 13 the record cannot be read or written\n"), "which is the journal's");
     assert!(help.contains("script meets 3 and 5 to 11 only"));
 }
 
@@ -118,7 +119,22 @@ fn desk_says_what_each_refusal_means() {
 
 #[test]
 fn desk_refuses_what_it_cannot_serve() {
-    for arguments in [&["no such file"][..], &["."], &["--no-such-option"], &["one", "two"]] {
+    for arguments in [
+        &["no such file"][..],
+        &["."],
+        &["--no-such-option"],
+        &["one", "two"],
+        &["--journal"],
+        &["--journal", ""],
+        &["--journal", "one", "no such file"],
+        &["--journal", "one", "--read"],
+        &["--journal", "one", "two", "three"],
+        &["--journal", "line\nfeed"],
+        &["--read"],
+        &["--read", ""],
+        &["--read", "one", "two"],
+        &["--read", "one", "-"],
+    ] {
         let Output { status, stdout, stderr } = ended(desk().args(arguments));
         assert_eq!(status.code(), Some(2), "{arguments:?}");
         assert!(stdout.is_empty() && !stderr.is_empty(), "{arguments:?}");
@@ -152,6 +168,33 @@ fn desk_says_that_standard_output_is_closed() {
     }
 }
 
+/// A journal would get the number of a file that is closed. Where standard error is, the message goes to standard output.
+#[test]
+fn desk_opens_no_journal_where_a_file_is_closed() {
+    let journal = folder("closed").join("journal");
+    fs::write(&journal, b"B\x05").expect("a file is written");
+    for words in ["--journal", "--read"] {
+        let words = format!("{words} {}", journal.display());
+        for (closed, said) in [("<&-", "input"), (">&-", "output"), ("<&- >&-", "output")] {
+            let said = format!("desk: standard {said} is closed\n");
+            assert_serves_nothing(&mut desk_with(&format!("{words} {closed}")), &said);
+        }
+        for closed in ["2>&-", "<&- 2>&-"] {
+            let Output { status, stdout, .. } = ended(&mut desk_with(&format!("{words} {closed}")));
+            assert_eq!(String::from_utf8_lossy(&stdout), "desk: standard error is closed\n", "{words} {closed}");
+            assert_eq!(status.code(), Some(2), "{words} {closed}");
+        }
+        for closed in [">&- 2>&-", "<&- >&- 2>&-"] {
+            assert_serves_nothing(&mut desk_with(&format!("{words} {closed}")), "");
+        }
+    }
+    assert_serves_nothing(
+        &mut desk_with(&format!("--journal {} stdin <&-", journal.display())),
+        "desk: standard input is closed\n",
+    );
+    assert_eq!(fs::read(journal).expect("it is there"), b"B\x05");
+}
+
 #[cfg(target_os = "linux")]
 #[test]
 fn desk_fails_where_a_write_fails() {
@@ -173,8 +216,6 @@ fn desk_fails_where_nobody_reads() {
     assert!(String::from_utf8_lossy(&stderr).contains("lending_desk: standard output"));
 }
 
-// ---- Where it stands, and what it stands beside
-
 /// An empty folder for a test.
 fn folder(name: &str) -> PathBuf {
     let path = Path::new(env!("CARGO_TARGET_TMPDIR")).join(name);
@@ -182,6 +223,85 @@ fn folder(name: &str) -> PathBuf {
     fs::create_dir_all(&path).expect("a folder is made");
     path
 }
+
+// ---- The journal
+
+/// Asserts what a command prints, what it says on standard error, and how it ends.
+#[track_caller]
+fn assert_prints(command: &mut Command, printed: &str, said: &str, code: i32) {
+    let Output { status, stdout, stderr } = ended(command);
+    assert_eq!(String::from_utf8_lossy(&stderr), said);
+    assert_eq!(String::from_utf8_lossy(&stdout), printed);
+    assert_eq!(status.code(), Some(code));
+}
+
+#[test]
+fn desk_keeps_a_journal_and_goes_on_from_it() {
+    let folder = folder("journal");
+    let asked = |script: &str| {
+        fs::write(folder.join("script"), script).expect("a file is written");
+        let mut desk = desk();
+        desk.current_dir(&folder).args(["--journal", "kept"]);
+        desk
+    };
+    assert_prints(asked("S 1\nB 7\nX\nB 7\n").arg("script"), "ok\nok\nunread\nrefused 6\n", "", 0);
+    let mut from_input = asked("I 7 0 1 9 0\nB 7");
+    let input = File::open(folder.join("script")).expect("the script is there");
+    assert_prints(from_input.arg("-").stdin(input), "answer 1 0\nrefused 6\n", "", 0);
+    assert_prints(asked("F 7\n").stdin(File::open(folder.join("script")).expect("there")), "committed 7\n", "", 0);
+    let lines = "S 1 0 0 0 0 0 0 0 0 0 0 0 0 0 0 0\tok\nB 7\tok\nI 7 0 1 9 0\tanswer 1 0\nF 7\tcommitted 7\n";
+    assert_prints(desk().current_dir(&folder).args(["--read", "kept"]), lines, "", 0);
+}
+
+/// The name of the last one looks like a note's beginning.
+#[test]
+fn desk_says_what_is_wrong_with_a_journal() {
+    let folder = folder("damaged");
+    for name in ["cut", "--cut", "note: cut", "a: note: b"] {
+        let path = folder.join(name);
+        let asked = |word: &str| {
+            let mut desk = desk();
+            desk.current_dir(&folder).args([word, name]).stdin(Stdio::null());
+            desk
+        };
+        let missing = format!("lending_desk: {name}: No such file or directory\n");
+        assert_prints(&mut asked("--read"), "", &missing, 1);
+        fs::write(&path, b"B\x05B").expect("a file is written");
+        assert_prints(
+            &mut asked("--read"),
+            "B 5\tok\n",
+            &format!("lending_desk: {name}: a record is cut at byte 2\n"),
+            1,
+        );
+        let note = format!("lending_desk: {name}: note: the last record is cut, and is cut away at byte 2\n");
+        assert_prints(&mut asked("--journal"), "", &note, 0);
+        assert_prints(&mut asked("--read"), "B 5\tok\n", "", 0);
+        fs::write(&path, b"B\x05X").expect("a file is written");
+        let damage = format!("lending_desk: {name}: no call has the letter at byte 2\n");
+        assert_prints(&mut asked("--read"), "B 5\tok\n", &damage, 1);
+        assert_prints(&mut asked("--journal"), "", &damage, 1);
+        assert_eq!(fs::read(&path).expect("it is there"), b"B\x05X");
+    }
+}
+
+/// The desk waits for input meanwhile.
+#[test]
+fn desk_passes_on_a_note_at_once() {
+    let journal = folder("note").join("journal");
+    fs::write(&journal, b"B").expect("a file is written");
+    let mut running = desk();
+    running.arg("--journal").arg(&journal).stdin(Stdio::piped()).stdout(Stdio::piped()).stderr(Stdio::piped());
+    let mut running = running.spawn().expect("./desk starts");
+    let mut line = String::new();
+    BufReader::new(running.stderr.take().expect("piped")).read_line(&mut line).expect("text");
+    assert!(line.ends_with(": note: the last record is cut, and is cut away at byte 0\n"), "{line}");
+    running.stdin.take().expect("piped").write_all(b"B 5\n").expect("./desk reads");
+    let Output { status, stdout, .. } = running.wait_with_output().expect("./desk ends");
+    assert!(status.success());
+    assert_eq!(stdout, b"ok\n");
+}
+
+// ---- Where it stands, and what it stands beside
 
 #[test]
 fn desk_is_found_behind_links() {
@@ -255,10 +375,13 @@ impl Repository {
     /// Puts an `rt` there that builds the program, and speaks as the real one does.
     fn add_rt(&self) {
         fs::copy(self.program(), self.0.join("kept")).expect("a file is copied");
-        let rt = self.0.join("bin/rt");
-        let text = "#!/usr/bin/env bash\necho 'rt: script proved'\ncp kept target/bin/lending_desk\n";
-        fs::write(&rt, text).expect("a file is written");
-        assert!(Command::new("chmod").arg("+x").arg(rt).status().expect("chmod starts").success());
+        self.add_command("bin/rt", "echo 'rt: script proved'\ncp kept target/bin/lending_desk\n");
+    }
+
+    fn add_command(&self, name: &str, text: &str) {
+        let path = self.0.join(name);
+        fs::write(&path, format!("#!/usr/bin/env bash\n{text}")).expect("a file is written");
+        assert!(Command::new("chmod").arg("+x").arg(path).status().expect("chmod starts").success());
     }
 
     fn desk(&self) -> Command {
@@ -296,5 +419,26 @@ fn desk_builds_a_program_that_is_old_or_missing() {
         assert_eq!(stdout, expected());
         assert!(String::from_utf8_lossy(&stderr).contains("crates proved"));
         assert_serves(&mut repository.desk(), ""); // nothing to build any more
+    }
+}
+
+/// One that says nothing before it is killed or ends badly, or says something and then ends well.
+#[test]
+fn desk_fails_where_the_program_does() {
+    let repository = Repository::new("failing");
+    for (text, words, said) in [
+        ("echo ok\nkill -KILL $$\n", &[][..], "Killed"),
+        ("echo ok\nexit 3\n", &[], ""),
+        ("echo ok\nprintf 'lending_desk: no line feed' >&2\n", &[], "lending_desk: no line feed\n"),
+        ("echo ok\necho 'lending_desk: j: note: a' >&2\nkill -KILL $$\n", &["--journal", "j"], "note: a\n"),
+        ("echo ok\necho 'lending_desk: j: note: a' >&2\necho b >&2\n", &["--journal", "j"], "note: a\nb\n"),
+        ("echo ok\necho 'lending_desk: note: a' >&2\n", &["--read", "j"], "note: a\n"),
+    ] {
+        repository.add_command("target/bin/lending_desk", text);
+        let mut desk = Command::new(repository.0.join("desk"));
+        let Output { status, stdout, stderr } = ended(desk.args(words).env("PATH", repository.0.join("bin")));
+        assert_eq!(status.code(), Some(1), "{text}");
+        assert_eq!(stdout, b"ok\n", "{text}");
+        assert!(String::from_utf8_lossy(&stderr).contains(said), "{text}");
     }
 }

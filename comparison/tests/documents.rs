@@ -1,15 +1,18 @@
 //! The documents hold: what they link to is there, and so are the paths, functions, laws, theorems and must-fail edits
-//! that they name; the promises name every edit; the session in the README is what the program prints, and its C is C.
-//! The proved whole case is that of the listing.
+//! that they name; the promises name every edit; the sessions in the README are what the desk prints, and its C is C; the
+//! records shown are records. The proved whole case is that of the listing.
 
 use std::collections::BTreeSet;
 use std::fs;
 use std::io::Write;
+use std::os::unix::fs::symlink;
 use std::path::{Path, PathBuf};
 use std::process::{Command, Stdio};
 
 use comparison::common::{columns, WHOLE_CASE};
+use comparison::journal::{JournalFile, Told};
 use comparison::program::Program;
+use reference::journal;
 
 /// Folders whose paths are written out from the repository's root.
 const FOLDERS: [&str; 8] =
@@ -287,16 +290,35 @@ fn unlike_edits(document: &Document, edits: &BTreeSet<String>) -> Vec<String> {
     unnamed.chain(named.difference(edits).map(|edit| format!("there is no edit {edit}"))).collect()
 }
 
-// ---- What the README shows
+// ---- What is shown
 
-/// The input and the output of the session in the README: a command that prints lines into `./desk`, and the replies.
-fn session(readme: &str) -> Option<(String, String)> {
-    let mut lines = readme.lines().skip_while(|line| !line.starts_with("    $ printf '%s\\n' "));
-    let (command, _) = lines.next()?.split_once(" | ./desk")?;
-    let calls = command.split('\'').skip(3).step_by(2);
-    let replies = lines.map_while(|line| line.strip_prefix("    "));
-    let ended = |line: &str| format!("{line}\n");
-    Some((calls.map(ended).collect(), replies.map(ended).collect()))
+/// The commands that a document shows, in order, each with what it prints.
+fn sessions(document: &Document) -> Vec<(String, String)> {
+    let mut sessions: Vec<(String, String)> = Vec::new();
+    let mut shown = false;
+    for line in document.prose() {
+        match (line.strip_prefix("    $ "), line.strip_prefix("    "), sessions.last_mut()) {
+            (Some(command), _, _) => sessions.push((command.to_string(), String::new())),
+            (None, Some(line), Some((_, printed))) if shown => *printed += &format!("{line}\n"),
+            _ => {}
+        }
+        shown = line.starts_with("    $ ") || shown && line.starts_with("    ");
+    }
+    sessions
+}
+
+/// Records that a document shows in fenced blocks: bytes in hexadecimal, and the line of a journal as it is printed, with
+/// spaces for the tab.
+fn shown_records(document: &Document) -> Vec<(Vec<u8>, String)> {
+    let fenced = document.text.split("```").skip(1).step_by(2).flat_map(str::lines);
+    let rows = fenced.map(|line| line.split("  ").map(str::trim).filter(|cell| !cell.is_empty()).collect::<Vec<_>>());
+    let rows = rows.filter(|cells| cells.len() == 3);
+    rows.map(|cells| (hexadecimal(cells[0]), format!("{}\t{}", cells[1], cells[2]))).collect()
+}
+
+fn hexadecimal(bytes: &str) -> Vec<u8> {
+    let byte = |byte| u8::from_str_radix(byte, 16).unwrap_or_else(|_| panic!("{byte} is no byte"));
+    bytes.split(' ').map(byte).collect()
 }
 
 // ---- Tests
@@ -341,12 +363,50 @@ fn promises_name_every_edit() {
     assert_eq!(unlike_edits(&Document::read("docs/PROMISES.md"), &edits), [""; 0]);
 }
 
+/// In a folder that has the desk, and nothing else before.
 #[test]
-fn session_is_what_the_program_prints() {
-    let (input, output) = session(&Document::read("README.md").text).expect("the README has a session");
-    assert!(input.lines().count() > 5 && input.lines().count() == output.lines().count(), "{input}{output}");
-    let printed = Program::lending_desk().run(input.as_bytes()).expect("the program ends well");
-    assert_eq!(String::from_utf8_lossy(&printed), output);
+fn sessions_are_what_the_desk_prints() {
+    Program::lending_desk();
+    let folder = Path::new(env!("CARGO_TARGET_TMPDIR")).join("sessions");
+    let _ = fs::remove_dir_all(&folder);
+    fs::create_dir_all(&folder).expect("a folder is made");
+    symlink(root().canonicalize().expect("it is there").join("desk"), folder.join("desk")).expect("a link is made");
+    let sessions = sessions(&Document::read("README.md"));
+    assert!(sessions.len() >= 5, "the README has sessions");
+    for (command, expected) in sessions {
+        let output = Command::new("bash").args(["-c", &command]).current_dir(&folder).output().expect("bash starts");
+        assert_eq!(String::from_utf8_lossy(&output.stdout), expected, "{command}");
+        assert_eq!(String::from_utf8_lossy(&output.stderr), "", "{command}");
+    }
+}
+
+/// By both implementations.
+#[test]
+fn shown_records_are_read_and_written() {
+    let records = shown_records(&Document::read("docs/JOURNAL.md"));
+    assert!(records.len() >= 12, "{records:?}");
+    for (bytes, expected) in &records {
+        let (record, end) = journal::next(bytes, 0).expect("it is read").expect("a record");
+        assert_eq!((journal::line(&record), end), (expected.clone(), bytes.len()));
+        assert_eq!(journal::write(&record).as_ref(), Ok(bytes));
+    }
+    let file = JournalFile::of(&records.iter().flat_map(|(bytes, _)| bytes.clone()).collect::<Vec<_>>());
+    let lines: String = records.iter().map(|(_, line)| format!("{line}\n")).collect();
+    file.print(&Program::lending_desk()).check(&Told::new(lines.as_bytes(), "")).expect("printed");
+}
+
+#[test]
+fn shown_numbers_are_in_groups() {
+    let document = Document::read("docs/JOURNAL.md");
+    let rows = document.rows();
+    let numbers: Vec<_> = rows.iter().filter(|row| row.head == ["number", "bytes"]).collect();
+    assert!(numbers.len() >= 5);
+    for row in numbers {
+        let number = row.cells[0].replace(',', "").parse().expect("a number");
+        let begin = journal::Record { letter: b'B', arguments: vec![number], said: journal::Said::Ok };
+        let groups = hexadecimal(row.last().trim_matches('`'));
+        assert_eq!(journal::write(&begin), Ok([b"B", &groups[..]].concat()), "{number}");
+    }
 }
 
 /// A proved case cannot read a file: it has the listing's columns as two texts.

@@ -3,6 +3,7 @@
 use std::io::{self, BufWriter, ErrorKind, Read, Write};
 
 use crate::call::Call;
+use crate::journal::{self, Record};
 use crate::layout::{OBJECTS, TRANSACTIONS, WORDS};
 use crate::operations::{are_batch, BATCH, OPERATION_WORDS};
 use crate::transactions::{members, TransactionSet};
@@ -83,6 +84,25 @@ pub fn run(mut input: impl Read, output: impl Write) -> io::Result<()> {
             Err(error) => return Err(error),
         }
     }
+}
+
+/// Serves a whole script from a store of zeros and keeps a journal: what is printed, and the journal's bytes.
+pub fn journalled(input: &[u8]) -> (Vec<u8>, Vec<u8>) {
+    let (mut store, mut list) = ([0; WORDS], [0; TRANSACTIONS]);
+    let (mut output, mut journal) = (Vec::new(), Vec::new());
+    for line in input.split_inclusive(|&byte| byte == b'\n') {
+        match parse(line.strip_suffix(b"\n").unwrap_or(line)) {
+            Some(call) => {
+                let outcome = call.serve(&mut store, &mut list);
+                print(&mut output, outcome, &list).expect("a vector takes every write");
+                if let Some(record) = Record::of(&call, outcome, &list) {
+                    journal::write_into(&record, &mut journal).expect("the record of a served call is a good one");
+                }
+            }
+            None => output.extend(b"unread\n"),
+        }
+    }
+    (output, journal)
 }
 
 /// A store that answers bytes of a script.

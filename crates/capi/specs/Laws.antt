@@ -1,4 +1,5 @@
--- Laws of replies as the C interface writes them.
+-- Laws of replies as the C interface writes them; of the journal's exports, in a file of their own.
+pub mod Records
 use Prim.Native.Nat.{ℕ, zero, suc, _+_, _*_, _≤_, _<_}
 use mathlib.Core.Path.{_≡_, refl, ap, ap₂, sym, _∙_}
 use mathlib.Core.Bool.{Bool, cond}

@@ -8,6 +8,8 @@ ghost use Rattle.store.specs.Decisions.{whetherSound};
 ghost use Rattle.protocol.specs.Calls as calls;
 ghost use Rattle.capi.specs.Exported.{accepted, operated, ended, exported, written, writtenAnswers, Handed};
 
+mod records;
+
 // What set up and begin reply: the reason for saying no, or 0.
 #[repr(C)]
 pub struct Accepted {

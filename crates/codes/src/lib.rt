@@ -4,17 +4,17 @@ ghost use mathlib.Core.Path.{_≡_};
 ghost use Rattle.protocol.specs.ReplyOf.{replyOf};
 ghost use Rattle.codes.specs.Codes.{numbersOf, listed as Listed};
 
-const WAIT: u32 = 0;
+pub const WAIT: u32 = 0;
 
-const ANSWERED: u32 = 1;
+pub const ANSWERED: u32 = 1;
 
-const FINISHED: u32 = 2;
+pub const FINISHED: u32 = 2;
 
-const COMMITTED: u32 = 3;
+pub const COMMITTED: u32 = 3;
 
-const CIRCLE: u32 = 4;
+pub const CIRCLE: u32 = 4;
 
-const CANCELLED: u32 = 5;
+pub const CANCELLED: u32 = 5;
 
 // The numbers of a reply; `specs/Codes` says which reply has which.
 pub struct Numbers {

@@ -1,97 +1,108 @@
-// A line of a script, served: its call made on the book, and the reply put into a buffer.
-use lines::Call;
+// A line of a script, served: its reply put into a buffer, and its record into another.
 use lines::Line;
-use protocol::Reply;
+use recording::Made;
+use serving::Said;
+use serving::Told;
 ghost use mathlib.Core.Path.{_≡_};
-ghost use mathlib.Core.Option.{some};
-ghost use Prim.Native.Nat.{_+_, _*_, _≤_};
+ghost use mathlib.Core.Bool.{true};
+ghost use mathlib.Core.List.{[]};
+ghost use Prim.Native.Nat.{_+_, _≤_};
 ghost use lib.ListN.{length};
-ghost use Rattle.protocol.specs.Calls.{operationWords, batchLimit};
-ghost use Rattle.protocol.specs.Call.{batch};
-ghost use Rattle.lines.specs.Lines.{lent};
-ghost use Rattle.lines.specs.Coded.{callOf, wordsOf};
-ghost use Rattle.dispatch.specs.Served.{serving, lineServed, ended};
-ghost use Rattle.dispatch.specs.Replying.{mostReply, mostPrinted, CallServed, Replied};
+ghost use Rattle.text.specs.Fields.{Put};
+ghost use Rattle.journal.specs.Records.{shaped};
+ghost use Rattle.journal.specs.Coded.{recordOf};
+ghost use Rattle.journal.specs.Journal.{noted};
+ghost use Rattle.serving.specs.Told.{saidOf};
+ghost use Rattle.recording.specs.Recording.{made as Made·is};
+ghost use Rattle.dispatch.specs.Served.{textOf, recordsOf, lineServed};
+ghost use Rattle.dispatch.specs.Replying.{mostReply, mostPrinted, mostRecorded, Printable, callAsked};
+ghost use Rattle.dispatch.specs.Replying.{Recordable, Kept, Answered};
 
-// What is said to a line.
-pub enum Said {
-    Unread,
-    // a call's reply, and how many bytes of the list are the call's
-    Read(Reply, usize),
-    // a batch, to be served yet: its transaction, and how many words of operations it has
-    Batch(u32, usize),
+// Where a line's reply ends, with its line feed, and where its record does.
+pub struct Ends {
+    pub written: usize,
+    pub recorded: usize,
 }
 
-// Makes the call that a line asks for, where it is no batch.
-fn serve(book: &mut [u32], asked: Line, list: &mut [u8]) -> Said
-    requires { ⌜ (now list ≡ lent) × (wordsOf (asked .call) ≤ operationWords * batchLimit) ⌝ }
-    ensures { λ r. ⌜ CallServed (callOf (asked .call) (asked .kinds) (asked .operations)) (asked .operations)
-        (now (book .entry)) (now (book .exit)) (now (list .exit)) r ⌝ }
-{
-    let call = asked.call;
-    let kinds = asked.kinds;
-    match call {
-        Call::SetUp => Said::Read(scheduler::set_up(book, &kinds), 0),
-        Call::Begin(transaction) => Said::Read(scheduler::begin(book, transaction), 0),
-        Call::Operate(transaction, object, operation, key, value) => {
-            let reply = scheduler::operate(book, transaction, object, operation, key, value);
-            Said::Read(reply, 0)
-        }
-        Call::Batch(transaction, words) => Said::Batch(transaction, words),
-        Call::Finish(transaction) => {
-            Said::Read(scheduler::finish(book, transaction, list), layout::LIST)
-        }
-        Call::Cancel(transaction) => {
-            Said::Read(scheduler::cancel(book, transaction, list), layout::LIST)
-        }
-        Call::Unread => Said::Unread,
-    }
-}
-
-// Serves a batch, and puts its reply into the buffer.
-fn reply_batch(
-    book: &mut [u32],
-    transaction: u32,
-    operations: &[u32],
-    out: &mut [u8],
-    at: usize,
-) -> usize
-    requires { ⌜ at + mostReply ≤ length (now out) ⌝ }
-    ensures { λ r. ⌜ Replied (serving (some (batch transaction (now (operations .entry)))) (now (book .entry)))
-        (now (book .exit)) (now (out .entry)) at (now (out .exit)) r
+// Puts what is said to a line.
+fn put_text(out: &mut [u8], at: usize, told: Told) -> usize
+    requires { ⌜ (at + mostReply ≤ length (now out)) × Printable told ⌝ }
+    ensures { λ r. ⌜ Put (now (out .entry)) at (textOf (saidOf told (told .said))) (now (out .exit)) r
         × (r ≤ at + mostReply) ⌝ }
 {
-    let batched = scheduler::batch(book, transaction, operations);
-    replies::put_batched(out, at, batched)
-}
-
-// Serves a line, and puts what is said into the buffer.
-fn reply(book: &mut [u32], line: &[u8], out: &mut [u8], at: usize) -> usize
-    requires { ⌜ at + mostReply ≤ length (now out) ⌝ }
-    ensures { λ r. ⌜ Replied (lineServed (now (book .entry)) (now (line .entry))) (now (book .exit))
-        (now (out .entry)) at (now (out .exit)) r
-        × (r ≤ at + mostReply) ⌝ }
-{
-    let asked = lines::read_line(line);
-    let operations = asked.operations;
-    let mut list = [0u8; layout::LIST];
-    let said = serve(book, asked, &mut list);
+    let said = told.said;
+    let list = told.list;
     match said {
         Said::Unread => text::put(out, at, b"unread"),
         Said::Read(reply, listed) => replies::put_reply(out, at, reply, &list[..listed]),
+        Said::Batch(_, _) => replies::put_batched(out, at, told.batched),
+    }
+}
+
+// Puts a record, where there is one.
+fn put_made(journal: &mut [u8], at: usize, made: Made) -> usize
+    requires { ⌜ (at + mostRecorded ≤ length (now journal))
+        × (made .is ≡ true → shaped (recordOf (made .content)) ≡ true) ⌝ }
+    ensures { λ r. ⌜ Kept (noted (Made·is made) []) (now (journal .entry)) at (now (journal .exit)) r ⌝ }
+{
+    if !made.is {
+        return at;
+    }
+    let content = made.content;
+    let written = journal_writer::write(content);
+    let count = written.count;
+    let bytes = written.bytes;
+    text::put(journal, at, &bytes[..count])
+}
+
+// Puts the record of a call that was made.
+pub fn put_record(journal: &mut [u8], at: usize, asked: Line, told: Told) -> usize
+    requires { ⌜ (at + mostRecorded ≤ length (now journal)) × Recordable asked told ⌝ }
+    ensures { λ r. ⌜ Kept (recordsOf (callAsked asked) (saidOf told (told .said))) (now (journal .entry)) at
+        (now (journal .exit)) r ⌝ }
+{
+    let said = told.said;
+    let list = told.list;
+    let operations = asked.operations;
+    match said {
+        Said::Unread => at,
+        Said::Read(reply, listed) => {
+            put_made(
+                journal,
+                at,
+                recording::record_of(asked, reply, &list[..listed]),
+            )
+        }
         Said::Batch(transaction, words) => {
-            reply_batch(book, transaction, &operations[..words], out, at)
+            let batched = told.batched;
+            put_made(
+                journal,
+                at,
+                recording::record_of_batch(transaction, &operations[..words], batched),
+            )
         }
     }
 }
 
-// Replies to a line with a line.
-pub fn reply_line(book: &mut [u32], line: &[u8], out: &mut [u8], at: usize) -> usize
-    requires { ⌜ at + mostPrinted ≤ length (now out) ⌝ }
-    ensures { λ r. ⌜ Replied (ended (lineServed (now (book .entry)) (now (line .entry)))) (now (book .exit))
-        (now (out .entry)) at (now (out .exit)) r
-        × (r ≤ at + mostPrinted) ⌝ }
+// Serves a line. Its reply goes to a place of one buffer, and its record to a place of the other.
+pub fn reply_line(
+    book: &mut [u32],
+    line: &[u8],
+    out: &mut [u8],
+    at: usize,
+    journal: &mut [u8],
+    behind: usize,
+) -> Ends
+    requires { ⌜ (at + mostPrinted ≤ length (now out)) × (behind + mostRecorded ≤ length (now journal)) ⌝ }
+    ensures { λ r. ⌜ Answered (lineServed (now (book .entry)) (now (line .entry))) (now (book .exit))
+        (now (out .entry)) at (now (out .exit)) (now (journal .entry)) behind (now (journal .exit)) r ⌝ }
 {
-    let end = reply(book, line, out, at);
-    text::put(out, end, b"\n")
+    let asked = lines::read_line(line);
+    let told = serving::serve(book, asked);
+    let recorded = put_record(journal, behind, asked, told);
+    let end = put_text(out, at, told);
+    Ends {
+        written: text::put(out, end, b"\n"),
+        recorded,
+    }
 }

@@ -170,6 +170,25 @@ fn call_of(letter: u8, count: usize, values: [u32; MOST_ARGUMENTS]) -> Call
     }
 }
 
+// The call of a letter with so many of these arguments. A batch counts no more words than `operations` has.
+pub fn line_of(letter: u8, count: usize, values: [u32; MOST_ARGUMENTS]) -> Line
+    requires { ⌜ count ≤ 65 ⌝ }
+    ensures { λ r. ⌜ (callOf (r .call) (r .kinds) (r .operations) ≡ asked letter (take count values))
+        × (wordsOf (r .call) ≤ operationWords * batchLimit) ⌝ }
+{
+    if letter == b'S' {
+        return set_up(count, values);
+    }
+    if letter == b'G' {
+        return batch(count, values);
+    }
+    Line {
+        call: call_of(letter, count, values),
+        kinds: [0; OBJECTS],
+        operations: [0; MOST_OPERATIONS],
+    }
+}
+
 // A batch counts no more words than `operations` has.
 pub fn read_line(line: &[u8]) -> Line
     ensures { λ r. ⌜ (callOf (r .call) (r .kinds) (r .operations) ≡ callIn (now (line .entry)))
@@ -183,17 +202,6 @@ pub fn read_line(line: &[u8]) -> Line
     if !given.read {
         return unread();
     }
-    let count = given.count;
     let values = given.values;
-    if letter == b'S' {
-        return set_up(count, values);
-    }
-    if letter == b'G' {
-        return batch(count, values);
-    }
-    Line {
-        call: call_of(letter, count, values),
-        kinds: [0; OBJECTS],
-        operations: [0; MOST_OPERATIONS],
-    }
+    line_of(letter, given.count, values)
 }

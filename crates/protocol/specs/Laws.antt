@@ -9,6 +9,7 @@ pub mod Detours
 pub mod Keeping
 pub mod Batches
 pub mod Lent
+pub mod Beside
 pub mod Kept
 pub mod Protocol
 pub mod Commits

@@ -1,6 +1,6 @@
 -- What a call replies and hands back.
 use Prim.Native.Nat.{ℕ}
-use mathlib.Core.List.{List}
+use mathlib.Core.List.{List, [], _∷_}
 use Rattle.operations.specs.Operations.{Answer}
 
 -- The replies of documents 01 and 02, in their words.
@@ -35,3 +35,8 @@ pub record Served : Type 0 where
 
 abbrev pub served : List ℕ → Outcome → Served
 served book out = record { book = book; outcome = out }
+
+-- The numbers of answers: code and value of each in turn.
+abbrev pub answerNumbers : List Answer → List ℕ
+answerNumbers [] = []
+answerNumbers (a ∷ answers) = a .code ∷ a .value ∷ answerNumbers answers

@@ -3,9 +3,9 @@ use Prim.Native.Nat.{ℕ}
 use Prim.Native.Char.{code}
 use mathlib.Core.List.{List, [], _∷_, _++_}
 use lib.ListN.{take}
-use Rattle.operations.specs.Operations.{Answer}
 use Rattle.bitset.specs.Bitset.{members}
 use Rattle.protocol.specs.Replies.{Reply, ok, answered, wait, finished, committed, circle, cancelled, counted, refused}
+use Rattle.protocol.specs.Replies.{answerNumbers}
 use Rattle.text.specs.Text.{ascii, decimal}
 
 -- The twin of contents has no letter: no script's line is answered with how many rows were counted.
@@ -19,11 +19,6 @@ wordOf (circle count) = ascii "circle"
 wordOf (cancelled count) = ascii "cancelled"
 wordOf (counted rows) = ascii "counted"
 wordOf (refused reason) = ascii "refused"
-
--- Of answers, code and value of each in turn.
-abbrev pub answerNumbers : List Answer → List ℕ
-answerNumbers [] = []
-answerNumbers (a ∷ answers) = a .code ∷ a .value ∷ answerNumbers answers
 
 -- The numbers behind the word: of a wait how many owners, then these, ascending (02, No. 1); those that committed stand
 -- at the front of the list.

@@ -13,14 +13,15 @@ ghost use Rattle.store.specs.Store.{transactionCount};
 ghost use Rattle.protocol.specs.Calls.{batchLimit};
 ghost use Rattle.protocol.specs.ReplyOf.{replyOf, batchedOf, Filled};
 ghost use Rattle.text.specs.Fields.{Put};
-ghost use Rattle.replies.specs.Printed.{wordOf, answerNumbers, printedNumbers, spaced, printed};
+ghost use Rattle.protocol.specs.Replies.{answerNumbers};
+ghost use Rattle.replies.specs.Printed.{wordOf, printedNumbers, spaced, printed};
 
 // The most bytes of a reply with its line feed, 359: `answer` and the answers of a batch, each two numbers of a
 // space and ten digits at most.
 pub const MOST: usize = 6 + 2 * (1 + text::MOST_DIGITS) * BATCH + 1;
 
 // Puts a number behind a space.
-fn put_field(out: &mut [u8], at: usize, number: u32) -> usize
+pub fn put_field(out: &mut [u8], at: usize, number: u32) -> usize
     requires { ⌜ at + length (spaced (number ∷ [])) ≤ length (now out) ⌝ }
     ensures { λ r. ⌜ Put (now (out .entry)) at (spaced (number ∷ [])) (now (out .exit)) r × (r ≤ at + 11) ⌝ }
 {
@@ -55,7 +56,7 @@ fn put_front(out: &mut [u8], at: usize, list: &[u8], count: u32) -> usize
 }
 
 // Puts the members of a set, ascending: each a space and two digits at most.
-fn put_members(out: &mut [u8], at: usize, set: u64) -> usize
+pub fn put_members(out: &mut [u8], at: usize, set: u64) -> usize
     requires { ⌜ at + 3 * transactionCount ≤ length (now out) ⌝ }
     ensures { λ r. ⌜ Put (now (out .entry)) at (spaced (members set)) (now (out .exit)) r
         × (r ≤ at + 3 * transactionCount) ⌝ }

@@ -17,7 +17,7 @@ use Rattle.traces.specs.Laws.Computing.{unchecked, trace-computed}
 use Rattle.text.specs.Text.{ascii, numberIn, decimalWithin, decimal}
 use Rattle.lines.specs.Lines.{callIn}
 use Rattle.replies.specs.Printed.{printed}
-use Rattle.script.specs.Script.{linesIn, endedLines, replies, asLines, script}
+use Rattle.script.specs.Script.{linesIn, endedLines, servedLines, texts, asLines, printedFrom, script}
 use Rattle.script.specs.Laws.Traces.{printedAt, replies-traced}
 
 -- The end of a text ends a line, but nothing after the last line feed is no line.
@@ -50,7 +50,7 @@ module _ (kinds : List ℕ) (events : List Event) (input output : List ℕ)
     (shown : (list : List ℕ) → asLines (printed ok list ∷ map printedAt events) ≡ output)
     (traced : (w : List ℕ) → BookLong w → (desk (setUp kinds) w .outcome .reply ≡ ok)
     × (trace desk (callsOf events) (desk (setUp kinds) w .book) ≡ events)) where
-  printed-from : (w : List ℕ) → BookLong w → asLines (replies w (linesIn input)) ≡ output
+  printed-from : (w : List ℕ) → BookLong w → asLines (texts (servedLines w (linesIn input))) ≡ output
   printed-from w l =
       let list : List ℕ = desk (setUp kinds) w .outcome .list in
       ap asLines (replies-traced (linesIn input) (setUp kinds ∷ callsOf events) read w)
@@ -59,7 +59,7 @@ module _ (kinds : List ℕ) (events : List Event) (input output : List ℕ)
       ∙ shown list
 
   script-printed : script input ≡ output
-  unfolding script
+  unfolding printedFrom
   script-printed = printed-from (replicate 3_937 0) (length-replicate {A = ℕ} 3_937 0)
 
 -- Document 01's whole case.

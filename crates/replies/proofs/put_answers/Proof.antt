@@ -6,7 +6,8 @@ use native.Mathlib.Omega.{arith}
 use lib.ListN.{length}
 use Rattle.text.specs.Fields.{Put}
 use Rattle.replies.specs.Printed.{spaced}
-use Rattle.replies.specs.Laws.Answers.{frontNumbers, AnswersPut, answers-start, answers-turn, answers-kept}
+use Rattle.protocol.specs.Laws.Beside.{frontNumbers}
+use Rattle.replies.specs.Laws.Answers.{AnswersPut, answers-start, answers-turn, answers-kept}
 use Rattle.replies.proofs.put_answers.Statement.{statement}
 use Rattle.replies.proofs.put_answers.Tie as tie
 

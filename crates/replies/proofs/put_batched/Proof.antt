@@ -9,7 +9,8 @@ use denote.Enum.Declared.{tagOf}
 use Rattle.protocol.proofs.Reply.{the-type}
 use Rattle.protocol.specs.declared.Reply.{Reply}
 use Rattle.protocol.specs.declared.Reply.the-variants.{Answers}
-use Rattle.replies.specs.Laws.Answers.{filled-within, word-behind, batch-put, other-put}
+use Rattle.protocol.specs.Laws.Beside.{filled-within}
+use Rattle.replies.specs.Laws.Answers.{word-behind, batch-put, other-put}
 use Rattle.replies.proofs.put_batched.Statement.{statement}
 use Rattle.replies.proofs.put_batched.Tie as tie
 

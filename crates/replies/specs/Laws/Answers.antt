@@ -1,16 +1,16 @@
 -- A batch's answers, put one after the other.
-use Prim.Native.Nat.{ℕ, _+_, _*_, _-_, _≤_, _<_}
+use Prim.Native.Nat.{ℕ, _+_, _*_, _≤_, _<_}
 use mathlib.Core.Path.{_≡_, refl, sym, ap, _∙_, subst, subst⁻¹}
-use mathlib.Core.List.{List, [], _∷_, _++_, map, map-append}
-use native.Mathlib.Numerals.{add-one}
+use mathlib.Core.List.{List, [], _∷_, _++_, map}
 use native.Mathlib.Omega.{arith}
-use lib.ListN.{length, take, getD, replicate, length-append, length-map}
-use lib.Seq.{take-suc}
+use lib.ListN.{length, take, getD}
 use Rattle.operations.specs.Operations as model
 use Rattle.operations.specs.Stored.{answerOf}
 use Rattle.operations.specs.declared.Answer.{Answer}
 use Rattle.protocol.specs.Replies as replies
-use Rattle.protocol.specs.ReplyOf.{replyWith, replyOf, batchedOf, answersIn, Filled}
+use Rattle.protocol.specs.Replies.{answerNumbers}
+use Rattle.protocol.specs.ReplyOf.{replyWith, replyOf, batchedOf}
+use Rattle.protocol.specs.Laws.Beside.{frontNumbers, numbers-next}
 use Rattle.protocol.specs.declared.Batched.{Batched}
 use Rattle.protocol.specs.declared.Reply.{Reply}
 use Rattle.protocol.specs.declared.Reply.the-variants.{Ok, Answered, Answers, Wait, Finished, Committed, Circle}
@@ -18,12 +18,8 @@ use Rattle.protocol.specs.declared.Reply.the-variants.{Cancelled, Counted, Refu
 use Rattle.text.specs.Text.{ascii}
 use Rattle.text.specs.Fields.{Put}
 use Rattle.text.specs.Laws.Putting.{nothing, then, length-put}
-use Rattle.replies.specs.Printed.{answerNumbers, spaced, printed}
+use Rattle.replies.specs.Printed.{spaced, printed}
 use Rattle.replies.specs.Laws.Printing.{fields-append}
-
--- The numbers of the first i answers.
-abbrev pub frontNumbers : List Answer → ℕ → List ℕ
-frontNumbers answers i = answerNumbers (map answerOf (take i answers))
 
 -- They are put, each a space and ten digits at most.
 pub record AnswersPut (out₀ : List ℕ) (at : ℕ) (answers : List Answer) (out : List ℕ) (end i : ℕ) : Type 0 where
@@ -32,21 +28,6 @@ pub record AnswersPut (out₀ : List ℕ) (at : ℕ) (answers : List Answer) (ou
 
 pub answers-start : (out : List ℕ) (at : ℕ) (answers : List Answer) → AnswersPut out at answers out at 0
 answers-start out at answers = record { done = nothing out at; short = omega arith }
-
-numbers-last : (answers : List model.Answer) (a : model.Answer)
-    → answerNumbers (answers ++ (a ∷ [])) ≡ answerNumbers answers ++ (a .code ∷ a .value ∷ [])
-numbers-last [] a = refl
-numbers-last (b ∷ answers) a = ap (λ (l : List ℕ). b .code ∷ b .value ∷ l) (numbers-last answers a)
-
-numbers-next : (answers : List Answer) (i : ℕ) (d : Answer) → i < length answers
-    → let a = getD answers i d in
-    frontNumbers answers (i + 1) ≡ frontNumbers answers i ++ (a .code ∷ a .value ∷ [])
-numbers-next answers i d more =
-    let a = getD answers i d in
-    ap (frontNumbers answers) (add-one i)
-    ∙ ap (λ (l : List Answer). answerNumbers (map answerOf l)) (take-suc answers i d more)
-    ∙ ap answerNumbers (map-append answerOf (take i answers) (a ∷ []))
-    ∙ numbers-last (map answerOf (take i answers)) (answerOf a)
 
 module _ {out₀ : List ℕ} {at : ℕ} {answers : List Answer} {out : List ℕ} {end i : ℕ}
     (so : AnswersPut out₀ at answers out end i) (fits : at + 22 * i ≤ length out₀) where
@@ -90,19 +71,6 @@ pub other-put : (b : Batched) → (b .reply ≡ Answers → ⊥) → {out out₁
     → Put out at (printed (replyOf (b .reply)) []) out₁ end → Put out at (printed (batchedOf b) []) out₁ end
 other-put b other {out} {out₁} {at} {end} =
     subst⁻¹ (λ (r : replies.Reply). Put out at (printed r []) out₁ end) (none-beside _ (b .reply) other)
-
--- There is a place for each.
-pub filled-within : (b : Batched) → Filled b → b .count ≤ length (b .answers)
-filled-within b filled =
-    let answers = answersIn (batchedOf b) in
-    let unused = replicate (16 - length answers) (model.answering 0 0) in
-    omega (
-      arith,
-      filled .0,
-      ap length (filled .1),
-      length-map (b .answers) answerOf,
-      length-append answers unused,
-    )
 
 -- The word, then the answers.
 module _ (b : Batched) (told : b .reply ≡ Answers) {out out₁ : List ℕ} {at end : ℕ}

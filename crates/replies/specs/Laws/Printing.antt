@@ -7,12 +7,12 @@ use native.Mathlib.Numerals.{add-one}
 use native.Mathlib.Omega.{arith}
 use lib.Dec.{eqb}
 use lib.ListN.{length, take, getD, length-append}
-use lib.Seq.{take-suc, take-all, take-length}
+use lib.Seq.{take-suc}
 use Rattle.operations.specs.Laws.Cases.{split}
 use Rattle.bitset.specs.Bitset.{has, Members, Lowest, membersFrom, members}
 use Rattle.bitset.specs.Laws.{lowest-first}
-use Rattle.store.specs.Laws.Words.{below}
 use Rattle.protocol.specs.Replies.{Reply, ok, answered, wait, finished, committed, circle, cancelled, counted, refused}
+use Rattle.protocol.specs.Laws.Beside.{take-min}
 use Rattle.text.specs.Text.{decimal}
 use Rattle.text.specs.Fields.{Put}
 use Rattle.text.specs.Laws.Decimals.{length-decimal}
@@ -63,13 +63,6 @@ digits-fit out at n fits space =
       space .behind,
       ap length (space .buffer) ∙ length-put out at (32 ∷ []) (omega arith),
     )
-
-take-min : (n : ℕ) (l : List ℕ) → take (min n (length l)) l ≡ take n l
-take-min n l =
-    below n (length l) (λ (k : n < length l). let same : min n (length l) ≡ n = omega arith in
-    ap (λ (m : ℕ). take m l) same)
-    (λ (k : length l ≤ n). let all : min n (length l) ≡ length l = omega arith in
-    ap (λ (m : ℕ). take m l) all ∙ take-length l ∙ sym (take-all n l k))
 
 -- The first i bytes of a list are put.
 pub record Front (out₀ : List ℕ) (at : ℕ) (list out : List ℕ) (end i : ℕ) : Type 0 where

@@ -1,19 +1,31 @@
--- `script::goes_on`: both tests, the second where the first holds.
+-- `script::goes_on`: one test after the other.
+use Prim.Native.Nat.{_-_}
+use mathlib.Core.Path.{refl}
+use native.Mathlib.Omega.{arith}
 use borrow.Author.Needs.{needs}
-use Rattle.script.specs.Laws.Taking.{room-told, end-told}
+use borrow.Author.Tests.{leb-true, le-leb}
+use Rattle.operations.specs.Laws.Cases.{no}
 use Rattle.script.proofs.goes_on.Statement.{statement}
 use Rattle.script.proofs.goes_on.Tie as tie
 
-bytes-left : tie.Need-returns
-bytes-left c =
-    let a = c .before .before .before in
-    room-told (a .args .progress .at) (a .args .bytes) (a .args .progress .written) (a .args .room)
-    (c .before .if1 .taken) (a .pre)
+none-left : tie.Need-returns
+none-left c = no refl (λ p. omega (arith, c .if1 .taken, p .0))
 
-none-left : tie.Need-returns-2
-none-left c =
-    let a = c .before .before in
-    end-told (a .args .progress .at) (a .args .bytes) (a .args .progress .written) (a .args .room) (c .if1 .left)
+no-room : tie.Need-returns-2
+no-room c = no refl (λ p. omega (arith, c .if2 .taken, p .1))
+
+room : tie.Need-returns-3
+room c =
+    let tests = c .before in
+    let start = tests .before .before .before .before in
+    let space = start .args .left - start .args .progress .recorded in (
+      λ e. (
+        omega (arith, tests .before .before .if1 .left),
+        omega (arith, tests .if2 .left, start .pre .0),
+        omega (arith, leb-true 488 space e, start .pre .1),
+      ),
+      λ p. le-leb 488 space (omega (arith, p .2)),
+    )
 
 pub goes-on-spec : {M : Type 1} → statement M
-goes-on-spec = tie.close (tie.spec (λ c. search needs) bytes-left none-left)
+goes-on-spec = tie.close (tie.spec none-left (λ c. search needs) no-room (λ c. search needs) room)

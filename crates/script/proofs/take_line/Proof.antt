@@ -9,12 +9,12 @@ use Rattle.script.proofs.take_line.Tie as tie
 
 rest : tie.Need-returns
 rest c =
-    let a = c .before .before .before .before .before .before .before .before .before .before .before in
-    let find = c .before .before .before .before .before .before .find in
-    let keep = c .before .before .before .keep in
-    took-rest (a .args .book .now) (a .args .line .now) (a .args .block .now) (a .args .out .now) (a .args .from)
-    (a .pre .0 .1) (a .pre .0 .0) (a .pre .1) (a .pre .2) _ (find .ensures .0) _ _ (keep .ensures)
-    (c .if1 .taken)
+    let keep = c .before .before .before in
+    let find = keep .before .before .before in
+    let a = find .before .before .before .before .before .before in
+    took-rest (a .args .book .now) (a .args .line .now) (a .args .block .now) (a .args .out .now)
+    (a .args .journal .now) (a .args .from) (a .pre .0 .1) (a .pre .0 .0) (a .pre .1) (a .pre .2) _
+    (find .find .ensures .0) _ _ (keep .keep .ensures) (c .if1 .taken)
 
 kept-there : tie.Need-slice-aggregate-reply-line
 kept-there c =
@@ -23,13 +23,15 @@ kept-there c =
 
 line : tie.Need-returns-2
 line c =
-    let tested = c .before .before .before .before .before .before .before .before in
+    let replied = c .before .before .before .before .before .before in
+    let tested = replied .before .before .before .before .before in
     let kept = tested .before .before .before in
     let found = kept .before .before .before in
-    let a = found .before .before .before .before .before in
-    took-line (a .args .book .now) (a .args .line .now) (a .args .block .now) (a .args .out .now) (a .args .from)
-    (a .pre .0 .1) (a .pre .0 .0) (a .pre .1) (a .pre .2) _ (found .find .ensures .0) _ _ (kept .keep .ensures)
-    (omega (arith, found .find .ensures .1, tested .if1 .left)) (c .before .before .before .before .reply-line .ensures)
+    let a = found .before .before .before .before .before .before in
+    took-line (a .args .book .now) (a .args .line .now) (a .args .block .now) (a .args .out .now)
+    (a .args .journal .now) (a .args .from) (a .pre .0 .1) (a .pre .0 .0) (a .pre .1) (a .pre .2) _
+    (found .find .ensures .0) _ _ (kept .keep .ensures) (omega (arith, found .find .ensures .1, tested .if1 .left))
+    (replied .reply-line .ensures)
 
 pub take-line-spec : {M : Type 1} → statement M
 take-line-spec =
@@ -43,9 +45,10 @@ take-line-spec =
     (λ c. search needs)
     rest
     (λ c. search needs)
-    (λ c. search needs)
     kept-there
     (λ c κs. search needs)
+    (λ c. search needs)
+    (λ c. search needs)
     (λ c. search needs)
     (λ c. search needs)
     (λ c. search needs)

@@ -1,33 +1,31 @@
 -- The end of the input.
-use Prim.Native.Nat.{ℕ, _+_, _≤_}
+use Prim.Native.Nat.{ℕ}
 use mathlib.Core.Path.{_≡_, refl, subst⁻¹}
 use mathlib.Core.Bool.{Bool, cond}
 use mathlib.Core.List.{List, []}
-use native.Mathlib.Omega.{arith}
 use borrow.Author.Tests.{eq-eqb, ne-eqb}
 use lib.ListN.{length}
-use Rattle.text.specs.Laws.Putting.{nothing}
-use Rattle.dispatch.specs.Served.{lineServed, ended}
-use Rattle.dispatch.specs.Replying.{Replied}
+use Rattle.dispatch.specs.Served.{lineServed}
+use Rattle.dispatch.specs.Replying.{Answered}
+use Rattle.dispatch.specs.declared.Ends.{Ends}
 use Rattle.script.specs.Sessions.{session, turn, lineEnded, closing}
 use Rattle.script.specs.Feeding.{Turned}
+use Rattle.script.specs.Laws.Issuing.{issued-nothing, issued-line}
 
-module _ (w line out : List ℕ) where
-  pub closed-empty : length line ≡ 0 → Turned (closing (session w line)) w out 0 out 0 × (0 ≤ 359)
-  closed-empty e = (
-    subst⁻¹ (λ (b : Bool). Turned (cond b (turn (session w line) []) (lineEnded (session w line))) w out 0 out 0)
-        (eq-eqb (length line) 0 e)
-        (refl, nothing out 0),
-    omega arith,
-  )
+module _ (w line out journal : List ℕ) where
+  abbrev TurnedBy : Bool → List ℕ → List ℕ → List ℕ → Ends → Type 0
+  TurnedBy empty book printed recorded ends =
+      Turned (cond empty (turn (session w line) []) (lineEnded (session w line))) book out printed journal recorded ends
 
-  pub closed-line : {book after : List ℕ} {end : ℕ} → (length line ≡ 0 → ⊥)
-      → Replied (ended (lineServed w line)) book out 0 after end × (end ≤ 0 + 359)
-      → Turned (closing (session w line)) book out 0 after end × (end ≤ 359)
-  closed-line {book} {after} {end} e said = (
-    subst⁻¹ (λ (b : Bool).
-        Turned (cond b (turn (session w line) []) (lineEnded (session w line))) book out 0 after end)
-        (ne-eqb (length line) 0 e)
-        (said .0),
-    omega (arith, said .1),
-  )
+  pub closed-empty : length line ≡ 0
+      → Turned (closing (session w line)) w out out journal journal (record { written = 0; recorded = 0 })
+  closed-empty e =
+      subst⁻¹ (λ (b : Bool). TurnedBy b w out journal (record { written = 0; recorded = 0 })) (eq-eqb (length line) 0 e)
+      (refl, issued-nothing out 0 journal 0)
+
+  pub closed-line : {book printed recorded : List ℕ} {ends : Ends} → (length line ≡ 0 → ⊥)
+      → Answered (lineServed w line) book out 0 printed journal 0 recorded ends
+      → Turned (closing (session w line)) book out printed journal recorded ends
+  closed-line {book} {printed} {recorded} {ends} e said =
+      subst⁻¹ (λ (b : Bool). TurnedBy b book printed recorded ends) (ne-eqb (length line) 0 e)
+      (said .left, issued-line said)

@@ -15,22 +15,22 @@ use Rattle.text.specs.Text.{split}
 use Rattle.text.specs.Laws.Lines.{Without, begun, begun-empty, begun-longer, some-piece}
 use Rattle.lines.specs.Theorems.{front-enough}
 use Rattle.dispatch.specs.Served.{LineServed, serving, lineServed}
-use Rattle.script.specs.Script.{withoutEmptyLast, replies, asLines, zeros, script}
-use Rattle.script.specs.Sessions.{Session, session, opening, Turn, turn, printing, lineEnded, taken, closing}
+use Rattle.script.specs.Script.{withoutEmptyLast, linesIn, servedLines}
+use Rattle.script.specs.Sessions.{Session, session, opening, Turn, turn, behind, lineEnded, taken, closing}
 use Rattle.script.specs.Sessions.{soFar}
 
-printing-after : (xs ys : List ℕ) (t : Turn) → printing xs (printing ys t) ≡ printing (xs ++ ys) t
-printing-after xs ys t = ap (turn (t .after)) (sym (append-assoc xs ys (t .output)))
+behind-both : (xs ys : List LineServed) (t : Turn) → behind xs (behind ys t) ≡ behind (xs ++ ys) t
+behind-both xs ys t = ap (turn (t .after)) (sym (append-assoc xs ys (t .ended)))
 
 -- Bytes after bytes.
 pub taken-append : (s : Session) (xs ys : List ℕ)
-    → taken s (xs ++ ys) ≡ printing (taken s xs .output) (taken (taken s xs .after) ys)
+    → taken s (xs ++ ys) ≡ behind (taken s xs .ended) (taken (taken s xs .after) ys)
 taken-append s [] ys = refl
 taken-append s (b ∷ xs) ys =
     cases (eqb b (code "\n"))
     (λ (e : eqb b (code "\n") ≡ true). rw e
-    (ap (printing (lineEnded s .output)) (taken-append (lineEnded s .after) xs ys)
-    ∙ printing-after (lineEnded s .output) (taken (lineEnded s .after) xs .output)
+    (ap (behind (lineEnded s .ended)) (taken-append (lineEnded s .after) xs ys)
+    ∙ behind-both (lineEnded s .ended) (taken (lineEnded s .after) xs .ended)
     (taken (taken (lineEnded s .after) xs .after) ys)))
     (λ (e : eqb b (code "\n") ≡ false). rw e (taken-append (session (s .book) (take 717 (s .line ++ (b ∷ [])))) xs ys))
 
@@ -68,65 +68,63 @@ pub last-left : (line : List ℕ) (pieces : List (List ℕ)) → 1 ≤ length pi
 last-left line [] more = absurd (omega arith)
 last-left line (piece ∷ pieces) more = refl
 
--- What is printed for bytes, and for a last line where they end.
-abbrev through : (Session → List ℕ) → Session → List ℕ → List ℕ
-through last s bytes = taken s bytes .output ++ last (taken s bytes .after)
+-- The lines that bytes end, and a last line where they end.
+abbrev through : (Session → List LineServed) → Session → List ℕ → List LineServed
+through last s bytes = taken s bytes .ended ++ last (taken s bytes .after)
 
--- All lines but the last are answered, and the last where `answered` keeps it: then `last` prints the reply.
-module _ (last : Session → List ℕ) (answered : List (List ℕ) → List (List ℕ))
+-- All lines but the last are served, and the last where `answered` keeps it: then `last` serves it.
+module _ (last : Session → List LineServed) (answered : List (List ℕ) → List (List ℕ))
     (keeps : (line : List ℕ) (pieces : List (List ℕ)) → 1 ≤ length pieces
     → answered (line ∷ pieces) ≡ line ∷ answered pieces)
-    (ends : (w line : List ℕ) → last (session w (take 717 line)) ≡ asLines (replies w (answered (line ∷ [])))) where
-  abbrev repliesTo : List ℕ → List (List ℕ) → List ℕ
-  repliesTo w pieces = asLines (replies w (answered pieces))
+    (ends : (w line : List ℕ) → last (session w (take 717 line)) ≡ servedLines w (answered (line ∷ []))) where
+  abbrev servedTo : List ℕ → List (List ℕ) → List LineServed
+  servedTo w pieces = servedLines w (answered pieces)
 
-  feed-ended : (bytes w line : List ℕ)
+  line-ended : (bytes w line : List ℕ)
       → through last (session (lineServed w line .book) []) bytes
-      ≡ repliesTo (lineServed w line .book) (begun [] (split (code "\n") bytes))
+      ≡ servedTo (lineServed w line .book) (begun [] (split (code "\n") bytes))
       → let s : Session = session w (take 717 line) in
-      lineEnded s .output ++ through last (lineEnded s .after) bytes
-      ≡ repliesTo w (begun line ([] ∷ split (code "\n") bytes))
-  feed-ended bytes w line others =
+      lineEnded s .ended ++ through last (lineEnded s .after) bytes
+      ≡ servedTo w (begun line ([] ∷ split (code "\n") bytes))
+  line-ended bytes w line others =
       let pieces : List (List ℕ) = split (code "\n") bytes in
-      let ended : LineServed → List ℕ → List ℕ = λ a after. a .text ++ (code "\n" ∷ after) in
-      append-assoc (lineServed w (take 717 line) .text) (code "\n" ∷ []) _
-      ∙ ap (λ (a : LineServed). ended a (through last (session (a .book) []) bytes)) (front-served w line)
-      ∙ ap (ended (lineServed w line)) (others ∙ ap (repliesTo (lineServed w line .book)) (begun-empty pieces))
-      ∙ ap (λ (lines : List (List ℕ)). asLines (replies w lines))
-      (sym (keeps line pieces (some-piece (code "\n") bytes)))
-      ∙ ap (λ (l : List ℕ). repliesTo w (l ∷ pieces)) (sym (append-nil line))
+      ap (λ (a : LineServed). a ∷ through last (session (a .book) []) bytes) (front-served w line)
+      ∙ ap (λ (l : List LineServed). lineServed w line ∷ l)
+      (others ∙ ap (servedTo (lineServed w line .book)) (begun-empty pieces))
+      ∙ ap (servedLines w) (sym (keeps line pieces (some-piece (code "\n") bytes)))
+      ∙ ap (λ (l : List ℕ). servedTo w (l ∷ pieces)) (sym (append-nil line))
 
   -- The line was begun before, and the pieces of these bytes are the rest of it and the lines after it.
   through-lines : (bytes w line : List ℕ)
-      → through last (session w (take 717 line)) bytes ≡ repliesTo w (begun line (split (code "\n") bytes))
-  through-lines [] w line = ends w line ∙ ap (λ (l : List ℕ). repliesTo w (l ∷ [])) (sym (append-nil line))
+      → through last (session w (take 717 line)) bytes ≡ servedTo w (begun line (split (code "\n") bytes))
+  through-lines [] w line = ends w line ∙ ap (λ (l : List ℕ). servedTo w (l ∷ [])) (sym (append-nil line))
   through-lines (b ∷ bytes) w line =
       let s : Session = session w (take 717 line) in
       cases (eqb b (code "\n"))
       (λ (e : eqb b (code "\n") ≡ true). rw e
-      (append-assoc (lineEnded s .output) (taken (lineEnded s .after) bytes .output) _
-      ∙ feed-ended bytes w line (through-lines bytes (lineServed w line .book) [])))
+      (append-assoc (lineEnded s .ended) (taken (lineEnded s .after) bytes .ended) _
+      ∙ line-ended bytes w line (through-lines bytes (lineServed w line .book) [])))
       (λ (e : eqb b (code "\n") ≡ false). rw e
       (ap (λ (l : List ℕ). through last (session w l) bytes) (take-front 717 line (b ∷ []))
       ∙ through-lines bytes w (line ++ (b ∷ []))
-      ∙ ap (repliesTo w) (begun-longer line b (split (code "\n") bytes))))
+      ∙ ap (servedTo w) (begun-longer line b (split (code "\n") bytes))))
 
-  -- The same from the start.
-  pub all-lines : (input : List ℕ) → through last opening input ≡ repliesTo zeros (split (code "\n") input)
-  all-lines input = through-lines input zeros [] ∙ ap (repliesTo zeros) (begun-empty (split (code "\n") input))
+  -- The same where no line was begun.
+  pub all-lines : (w input : List ℕ) → through last (opening w) input ≡ servedTo w (split (code "\n") input)
+  all-lines w input = through-lines input w [] ∙ ap (servedTo w) (begun-empty (split (code "\n") input))
 
 last-ended : (w line : List ℕ)
-    → closing (session w (take 717 line)) .output ≡ asLines (replies w (withoutEmptyLast (line ∷ [])))
+    → closing (session w (take 717 line)) .ended ≡ servedLines w (withoutEmptyLast (line ∷ []))
 last-ended w [] = refl
 last-ended w (b ∷ line) =
     let s : Session = session w (take 717 (b ∷ line)) in
-    ap (λ (t : Bool). cond t (turn s []) (lineEnded s) .output) (eqb·suc-zero (length (take 716 line)))
-    ∙ ap (λ (a : LineServed). a .text ++ (code "\n" ∷ [])) (front-served w (b ∷ line))
+    ap (λ (t : Bool). cond t (turn s []) (lineEnded s) .ended) (eqb·suc-zero (length (take 716 line)))
+    ∙ ap (λ (a : LineServed). a ∷ []) (front-served w (b ∷ line))
 
--- Where the input ends, what is printed is the script's.
-pub closed-script : (input : List ℕ) → through (λ s. closing s .output) opening input ≡ script input
-unfolding script
-closed-script = all-lines (λ s. closing s .output) withoutEmptyLast line-kept last-ended
+-- Where the input ends, all its lines are served.
+pub closed-lines : (w input : List ℕ)
+    → through (λ s. closing s .ended) (opening w) input ≡ servedLines w (linesIn input)
+closed-lines = all-lines (λ s. closing s .ended) withoutEmptyLast line-kept last-ended
 
 -- ---- Blocks
 
@@ -134,5 +132,5 @@ pub blocks-taken : (s : Session) (blocks : List (List ℕ)) → soFar s blocks �
 unfolding flatten
 blocks-taken s [] = refl
 blocks-taken s (block ∷ blocks) =
-    ap (printing (taken s block .output)) (blocks-taken (taken s block .after) blocks)
+    ap (behind (taken s block .ended)) (blocks-taken (taken s block .after) blocks)
     ∙ sym (taken-append s block (flatten blocks))

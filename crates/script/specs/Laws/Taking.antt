@@ -4,23 +4,27 @@ use Prim.Native.Char.{code}
 use mathlib.Core.Path.{_≡_, refl, sym, ap, ap₂, _∙_, subst, subst⁻¹}
 use mathlib.Core.Bool.{Bool, true, false, false≢true}
 use mathlib.Core.Logic.{_↔_, inl, inr, ⊎-elim}
-use mathlib.Core.List.{List, [], _∷_, _++_, append-nil}
+use mathlib.Core.List.{List, [], _∷_, _++_}
 use native.Mathlib.Nat.{eq-zero-or-pos}
 use native.Mathlib.Omega.{arith}
-use borrow.Author.Tests.{leb-true, leb-false, le-leb, ltb-true, ltb-false, lt-ltb}
+use borrow.Author.Tests.{ltb-true, ltb-false}
 use borrow.Table.Steps.{cases}
-use lib.Dec.{ltb, leb}
+use lib.Dec.{ltb}
 use lib.ListN.{length, take, drop, getD, length-append, length-drop}
 use lib.Seq.{drop-drop, take-all, take-add, take-suc, take-append-add, length-take-le, drop-cons}
 use Rattle.bytes.specs.Bytes.{slice, indexOf}
 use Rattle.text.specs.Fields.{Put}
-use Rattle.text.specs.Laws.Putting.{nothing, front, then, length-put}
+use Rattle.text.specs.Laws.Putting.{front, length-put}
 use Rattle.text.specs.Laws.Splitting.{Separated, separated}
 use Rattle.text.specs.Laws.Lines.{Without, front-without}
-use Rattle.dispatch.specs.Served.{lineServed, ended}
-use Rattle.dispatch.specs.Replying.{Replied}
-use Rattle.script.specs.Sessions.{Session, session, Turn, turn, printing, lineEnded, taken}
-use Rattle.script.specs.Feeding.{chunk, Kept, Took, begun, Stopped}
+use Rattle.journal.specs.Records.{file}
+use Rattle.dispatch.specs.Served.{LineServed, lineServed}
+use Rattle.dispatch.specs.Replying.{Answered}
+use Rattle.dispatch.specs.declared.Ends.{Ends}
+use Rattle.script.specs.Script.{texts, records, asLines}
+use Rattle.script.specs.Sessions.{Session, session, Turn, turn, behind, lineEnded, taken}
+use Rattle.script.specs.Feeding.{Issued, chunk, Kept, Room, Took, begun, Stopped}
+use Rattle.script.specs.Laws.Issuing.{issued-nothing, issued-line, issued-then, put-length}
 use Rattle.script.specs.Laws.Reading.{taken-append, taken-part}
 use Rattle.script.specs.declared.Progress.{Progress}
 
@@ -91,26 +95,12 @@ module _ (w line block : List ℕ) (at : ℕ) (few : length line ≤ 717) (withi
       ∙ ap (λ (b : ℕ). chunk block at end ++ (b ∷ [])) (ends more) in
       ap (taken (session w line)) bytes
       ∙ taken-append (session w line) (chunk block at end) (code "\n" ∷ [])
-      ∙ ap (λ (t : Turn). printing (t .output) (taken (t .after) (code "\n" ∷ []))) taken-chunk
-      ∙ ap (turn (lineEnded (session w longer) .after)) (append-nil (lineEnded (session w longer) .output))
-
--- ---- Going on
-
-module _ (at bytes written room : ℕ) where
-  pub room-told : at < bytes → written ≤ room
-      → (leb 359 (room - written) ≡ true) ↔ ((at < bytes) × (written + 359 ≤ room))
-  room-told more fits = (
-    λ e. (more, omega (arith, leb-true 359 (room - written) e)),
-    λ p. le-leb 359 (room - written) (omega (arith, p .1)),
-  )
-
-  pub end-told : bytes ≤ at → (ltb at bytes ≡ true) ↔ ((at < bytes) × (written + 359 ≤ room))
-  end-told end = (λ e. absurd (omega (arith, ltb-true at bytes e)), λ p. lt-ltb at bytes (p .0))
+      ∙ ap (λ (t : Turn). behind (t .ended) (taken (t .after) (code "\n" ∷ []))) taken-chunk
 
 -- ---- What `take_line` leaves
 
-module _ (w line block out : List ℕ) (from : Progress) (few : from .kept ≤ 717) (size : length line ≡ 717)
-    (more : from .at < length block) (room : from .written + 359 ≤ length out) (end : ℕ)
+module _ (w line block out journal : List ℕ) (from : Progress) (few : from .kept ≤ 717) (size : length line ≡ 717)
+    (more : from .at < length block) (room : Room out journal from) (end : ℕ)
     (found : end ≡ from .at + indexOf (code "\n") (slice (from .at) (length block) block)) where
   abbrev held-back : List ℕ
   held-back = take (from .kept) line
@@ -123,7 +113,8 @@ module _ (w line block out : List ℕ) (from : Progress) (few : from .kept ≤ 7
 
   module _ (line₁ : List ℕ) (kept : ℕ) (held : Kept held-back (chunk block (from .at) end) line₁ kept) where
     pub took-rest : end ≡ length block
-        → Took s block from w line₁ out out (record { at = end; kept = kept; written = from .written })
+        → Took s block from w line₁ out out journal journal
+        (record { at = end; kept = kept; written = from .written; recorded = from .recorded })
         × (from .at < end)
     took-rest whole =
         let to-end : taken s (chunk block (from .at) end) ≡ turn (session w (take kept line₁)) [] =
@@ -134,20 +125,23 @@ module _ (w line block out : List ℕ) (from : Progress) (few : from .kept ≤ 7
             within = omega arith;
             few = held .0 .1;
             left = ap (λ (t : Turn). t .after) to-end;
-            put =
-                subst⁻¹ (λ (t : Turn). Put out (from .written) (t .output) out (from .written)) to-end
-                (nothing out (from .written));
-            fits = omega arith;
+            issued =
+                subst⁻¹ (λ (t : Turn).
+                Issued (t .ended) out (from .written) out (from .written) journal (from .recorded) journal
+                (from .recorded))
+                to-end (issued-nothing out (from .written) journal (from .recorded));
+            fits = (omega (arith, room .0), omega (arith, room .1));
           },
           omega arith,
         )
 
-    pub took-line : end < length block → {book after : List ℕ} {written : ℕ}
-        → Replied (ended (lineServed w (take kept line₁))) book out (from .written) after written
-        × (written ≤ from .written + 359)
-        → Took s block from book line₁ out after (record { at = end + 1; kept = 0; written = written })
+    pub took-line : end < length block → {book printed recorded : List ℕ} {ends : Ends}
+        → Answered (lineServed w (take kept line₁)) book out (from .written) printed journal (from .recorded) recorded
+        ends
+        → Took s block from book line₁ out printed journal recorded
+        (record { at = end + 1; kept = 0; written = ends .written; recorded = ends .recorded })
         × (from .at < end + 1)
-    took-line inside {book} {after} {written} said =
+    took-line inside {book} {printed} {recorded} {ends} said =
         let to-line : taken s (chunk block (from .at) (end + 1)) ≡ lineEnded (session w (take kept line₁)) =
         taken-line w held-back block (from .at) short (omega arith) end found inside
         ∙ ap (λ (l : List ℕ). lineEnded (session w l)) (sym (held .1)) in (
@@ -155,84 +149,94 @@ module _ (w line block out : List ℕ) (from : Progress) (few : from .kept ≤ 7
             forward = omega (arith, found);
             within = omega arith;
             few = omega arith;
-            left = ap (λ (t : Turn). t .after) to-line ∙ ap (λ (b : List ℕ). session b []) (sym (said .0 .0));
-            put = subst⁻¹ (λ (t : Turn). Put out (from .written) (t .output) after written) to-line (said .0 .1);
-            fits = omega (arith, said .1);
+            left = ap (λ (t : Turn). t .after) to-line ∙ ap (λ (b : List ℕ). session b []) (sym (said .left));
+            issued =
+                subst⁻¹ (λ (t : Turn).
+                Issued (t .ended) out (from .written) printed (ends .written) journal (from .recorded) recorded
+                (ends .recorded))
+                to-line (issued-line said);
+            fits = (omega (arith, said .few, room .0), omega (arith, said .kept .few, room .1));
           },
           omega (arith, found),
         )
 
 -- ---- What `feed` leaves
 
-pub took-nothing : (book line block out : List ℕ) (kept : ℕ) → kept ≤ 717
-    → Took (session book (take kept line)) block (begun kept) book line out out (begun kept)
-took-nothing book line block out kept few =
+pub took-nothing : (book line block out journal : List ℕ) (kept : ℕ) → kept ≤ 717
+    → Took (session book (take kept line)) block (begun kept) book line out out journal journal (begun kept)
+took-nothing book line block out journal kept few =
     record {
       forward = omega arith;
       within = omega arith;
       few = few;
       left = refl;
-      put = nothing out 0;
-      fits = omega arith;
+      issued = issued-nothing out 0 journal 0;
+      fits = (omega arith, omega arith);
     }
 
-module _ {s : Session} {block : List ℕ} {from : Progress} {book line out after : List ℕ} {to : Progress}
-    (first : Took s block from book line out after to) {book₁ line₁ after₁ : List ℕ} {on : Progress}
-    (second : Took (session book (take (to .kept) line)) block to book₁ line₁ after after₁ on) where
-  abbrev printed : List ℕ
-  printed = taken s (chunk block (from .at) (to .at)) .output
+module _ {s : Session} {block : List ℕ} {from : Progress} {book line out printed journal recorded : List ℕ}
+    {to : Progress} (first : Took s block from book line out printed journal recorded to)
+    {book₁ line₁ printed₁ recorded₁ : List ℕ} {on : Progress}
+    (second : Took (session book (take (to .kept) line)) block to book₁ line₁ printed printed₁ recorded recorded₁ on)
+  where
+    abbrev ended : List LineServed
+    ended = taken s (chunk block (from .at) (to .at)) .ended
 
-  printed-fits : from .written + length printed ≤ length out
-  printed-fits = omega (arith, first .fits, first .put .behind)
+    pub took-more : Took s block from book₁ line₁ out printed₁ journal recorded₁ on
+    took-more =
+        let whole : on .at - from .at ≡ (to .at - from .at) + (on .at - to .at) =
+        omega (arith, first .forward, second .forward) in
+        let bytes : chunk block (from .at) (on .at) ≡ chunk block (from .at) (to .at) ++ chunk block (to .at) (on .at) =
+        let start : from .at + (to .at - from .at) ≡ to .at = omega (arith, first .forward) in
+        ap (λ (n : ℕ). take n (drop (from .at) block)) whole
+        ∙ take-add (to .at - from .at) (on .at - to .at) (drop (from .at) block)
+        ∙ ap (λ (l : List ℕ). chunk block (from .at) (to .at) ++ take (on .at - to .at) l)
+        (drop-drop (to .at - from .at) (from .at) block ∙ ap (λ (n : ℕ). drop n block) start) in
+        let both : taken s (chunk block (from .at) (on .at))
+        ≡ behind ended (taken (session book (take (to .kept) line)) (chunk block (to .at) (on .at))) =
+        ap (taken s) bytes ∙ taken-append s (chunk block (from .at) (to .at)) (chunk block (to .at) (on .at))
+        ∙ ap (λ (x : Session). behind ended (taken x (chunk block (to .at) (on .at)))) (first .left) in
+        record {
+          forward = omega (arith, first .forward, second .forward);
+          within = second .within;
+          few = second .few;
+          left = ap (λ (t : Turn). t .after) both ∙ second .left;
+          issued =
+              subst⁻¹ (λ (t : Turn).
+              Issued (t .ended) out (from .written) printed₁ (on .written) journal (from .recorded) recorded₁
+              (on .recorded))
+              both (issued-then (first .issued) (second .issued) (first .fits .0) (first .fits .1));
+          fits = (
+            omega (arith, second .fits .0, put-length (first .issued .put) (first .fits .0)),
+            omega (arith, second .fits .1, put-length (first .issued .kept) (first .fits .1)),
+          );
+        }
 
-  took-length : length after ≡ length out
-  took-length = ap length (first .put .buffer) ∙ length-put out (from .written) printed printed-fits
-
-  pub took-more : Took s block from book₁ line₁ out after₁ on
-  took-more =
-      let whole : on .at - from .at ≡ (to .at - from .at) + (on .at - to .at) =
-      omega (arith, first .forward, second .forward) in
-      let bytes : chunk block (from .at) (on .at) ≡ chunk block (from .at) (to .at) ++ chunk block (to .at) (on .at) =
-      let start : from .at + (to .at - from .at) ≡ to .at = omega (arith, first .forward) in
-      ap (λ (n : ℕ). take n (drop (from .at) block)) whole
-      ∙ take-add (to .at - from .at) (on .at - to .at) (drop (from .at) block)
-      ∙ ap (λ (l : List ℕ). chunk block (from .at) (to .at) ++ take (on .at - to .at) l)
-      (drop-drop (to .at - from .at) (from .at) block ∙ ap (λ (n : ℕ). drop n block) start) in
-      let both : taken s (chunk block (from .at) (on .at))
-      ≡ printing printed (taken (session book (take (to .kept) line)) (chunk block (to .at) (on .at))) =
-      ap (taken s) bytes ∙ taken-append s (chunk block (from .at) (to .at)) (chunk block (to .at) (on .at))
-      ∙ ap (λ (x : Session). printing printed (taken x (chunk block (to .at) (on .at)))) (first .left) in
-      record {
-        forward = omega (arith, first .forward, second .forward);
-        within = second .within;
-        few = second .few;
-        left = ap (λ (t : Turn). t .after) both ∙ second .left;
-        put =
-            subst⁻¹ (λ (t : Turn). Put out (from .written) (t .output) after₁ (on .written)) both
-            (then (first .put) printed-fits (second .put));
-        fits = omega (arith, second .fits, took-length);
-      }
-
-pub stopped : (block out : List ℕ) (p : Progress) {goes : Bool}
-    → (goes ≡ true) ↔ ((p .at < length block) × (p .written + 359 ≤ length out)) → goes ≡ false
-    → p .at ≤ length block → Stopped block out p
-stopped block out p told ended within =
+pub stopped : (block out journal : List ℕ) (p : Progress) {goes : Bool}
+    → (goes ≡ true)
+    ↔ ((p .at < length block) × (p .written + 359 ≤ length out) × (p .recorded + 488 ≤ length journal))
+    → goes ≡ false → p .at ≤ length block → Stopped block out journal p
+stopped block out journal p told ends within =
     cases (ltb (p .at) (length block))
-    (λ e. cases (leb (p .written + 359) (length out))
-    (λ f. absurd (false≢true (sym ended
-    ∙ told .1 (ltb-true (p .at) (length block) e, leb-true (p .written + 359) (length out) f))))
-    (λ f. inr (leb-false (p .written + 359) (length out) f)))
+    (λ e. inr (λ room. false≢true (sym ends ∙ told .1 (ltb-true (p .at) (length block) e, room .0, room .1))))
     (λ e. inl (omega (arith, ltb-false (p .at) (length block) e)))
 
--- Where there are bytes to take, and room for a reply, some are taken.
-pub took-some : {s : Session} {block book line out after : List ℕ} {kept : ℕ} {p : Progress}
-    → Took s block (begun kept) book line out after p
-    → Stopped block after p → length after ≡ length out → 0 < length block → 359 ≤ length out → 0 < p .at
-took-some so (inl all) same some room = omega arith
-took-some {s} {block} {p = p} so (inr full) same some room =
+-- Where there are bytes to take, and room for a line's reply and record, some are taken.
+pub took-some : {s : Session} {block book line out printed journal recorded : List ℕ} {kept : ℕ} {p : Progress}
+    → Took s block (begun kept) book line out printed journal recorded p
+    → Stopped block printed recorded p → 0 < length block → 359 ≤ length out → 488 ≤ length journal → 0 < p .at
+took-some so (inl all) some room left = omega arith
+took-some {s} {block} {p = p} so (inr full) some room left =
     ⊎-elim
     (λ (none : p .at ≡ 0). absurd (
-    let nothing-printed : length (taken s (chunk block 0 (p .at)) .output) ≡ 0 =
-    ap (λ (n : ℕ). length (taken s (chunk block 0 n) .output)) none in
-    omega (arith, nothing-printed, so .put .behind)))
+    let nothing-taken : taken s (chunk block 0 (p .at)) .ended ≡ [] =
+    ap (λ (n : ℕ). taken s (chunk block 0 n) .ended) none in
+    let nothing-printed : length (asLines (texts (taken s (chunk block 0 (p .at)) .ended))) ≡ 0 =
+    ap (λ (l : List LineServed). length (asLines (texts l))) nothing-taken in
+    let nothing-kept : length (file (records (taken s (chunk block 0 (p .at)) .ended))) ≡ 0 =
+    ap (λ (l : List LineServed). length (file (records l))) nothing-taken in
+    full (
+      omega (arith, nothing-printed, so .issued .put .behind, put-length (so .issued .put) (so .fits .0)),
+      omega (arith, nothing-kept, so .issued .kept .behind, put-length (so .issued .kept) (so .fits .1)),
+    )))
     (λ (l : 0 < p .at). l) (eq-zero-or-pos (p .at))

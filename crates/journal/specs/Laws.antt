@@ -1,0 +1,10 @@
+pub mod Found
+pub mod Groups
+pub mod Letters
+pub mod Accepted
+pub mod ReadBack
+pub mod Cuts
+pub mod Files
+pub mod Lengths
+pub mod Fronts
+pub mod Members

@@ -1,0 +1,4 @@
+pub mod Listing
+pub mod Room
+pub mod Theorems
+pub mod Laws

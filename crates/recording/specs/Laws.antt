@@ -1,0 +1,4 @@
+pub mod Given
+pub mod Records
+pub mod Replies
+pub mod Arrays

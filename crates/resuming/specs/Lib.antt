@@ -1,0 +1,3 @@
+pub mod Resuming
+pub mod Laws
+pub mod Theorems

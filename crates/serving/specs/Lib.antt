@@ -1,0 +1,3 @@
+pub mod Effects
+pub mod Told
+pub mod Laws
