@@ -22,7 +22,7 @@ extern "C" {
 
 /* The version of book, calls and replies, for books and programs that outlive one version: 1 is the base's, and each
  * change request raises it. A macro, so that #if can ask for it. */
-#define LENDING_DESK_VERSION 4
+#define LENDING_DESK_VERSION 5
 
 enum {
     LENDING_DESK_WORDS = 3937,          /* words of a book */

@@ -15,7 +15,7 @@ pub mod raw;
 
 /// The version of book, calls and replies, for books and programs that outlive one version: 1 is the base's, and each
 /// change request raises it.
-pub const VERSION: u32 = 4;
+pub const VERSION: u32 = 5;
 
 /// Words of a book.
 pub const WORDS: usize = 3937;

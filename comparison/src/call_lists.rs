@@ -4,7 +4,7 @@ use reference::call::Call;
 
 use crate::common::draws::Draws;
 use crate::common::ROW_LIMIT;
-use crate::drawing::{draw, shuffled};
+use crate::drawing::{beside, draw, shuffled};
 use crate::profiles::Profile;
 
 /// A script's calls; in some lists, after the first, calls that fill objects or make many live.
@@ -39,9 +39,7 @@ fn crowding(draws: &mut Draws, kinds: &[u8]) -> Vec<Call> {
     let mut transactions = shuffled(draws, 0..64);
     transactions.truncate(draws.pick(&[3, 8, 32, 63, 64, 64]));
     let object = draws.below(kinds.len());
-    // Of each pair the second may run beside the first and comes to depend on it: push and push, member and insert,
-    // modify and modify.
-    let (first, second) = [(1, 1), (1, 1), (6, 4), (11, 11)][usize::from(kinds[object])];
+    let (first, second) = beside(kinds[object].into());
     let ring = kinds[object] > 1 && draws.percent(50);
     let operate = |transaction: u32, operation, key: usize| {
         let (object, key) = (object as u32, key as u32);

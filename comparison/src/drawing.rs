@@ -35,10 +35,23 @@ pub fn draw(profile: &Profile, seed: u64) -> Script {
     for _ in 0..fewest + drawing.draws.below(more + 1) {
         drawing.draw_line();
     }
+    for _ in 0..profile.rings {
+        drawing.draw_ring();
+    }
     if drawing.draws.percent(profile.reading) {
         drawing.read_at_the_end();
     }
     drawing.finished()
+}
+
+/// Two operations on an object of a kind: the second may run beside the first and comes to depend on it. Push and push,
+/// member and insert, modify and modify.
+pub fn beside(kind: u32) -> (u32, u32) {
+    match kind {
+        0 | 1 => (1, 1),
+        2 => (6, 4),
+        _ => (11, 11),
+    }
 }
 
 /// Transactions in an order that is drawn.
@@ -318,6 +331,36 @@ impl<'a> Drawing<'a> {
             0 => self.draws.below(20) as u32,
             1 => self.draws.pick(&LIMITS),
             _ => self.draws.word(),
+        }
+    }
+
+    /// Begins transactions, makes each depend on the next and the last on the first, and finishes them in any order.
+    /// Now and then something else is called instead of making one depend.
+    fn draw_ring(&mut self) {
+        let absent = self.with_status(&self.numbers, ABSENT).into_iter();
+        let ring = shuffled(&mut self.draws, absent);
+        ring.iter().for_each(|&transaction| self.write(Call::Begin { transaction }));
+        for (place, &transaction) in ring.iter().enumerate() {
+            match self.draws.below(10) {
+                0 => self.draw_line(),
+                _ => self.draw_dependence(transaction, ring[(place + 1) % ring.len()], place),
+            }
+        }
+        for transaction in shuffled(&mut self.draws, ring.into_iter()) {
+            self.write(Call::Finish { transaction });
+        }
+    }
+
+    /// Makes a transaction depend on another, where there is an object: the place decides which, and which key.
+    fn draw_dependence(&mut self, transaction: u32, on: u32, place: usize) {
+        let objects = self.objects();
+        if let Some(&object) = objects.get(place % objects.len().max(1)) {
+            let kind = self.kind(object);
+            let (first, second) = beside(kind);
+            for (transaction, operation) in [(on, first), (transaction, second)] {
+                let key = if kind == 1 { transaction } else { place as u32 };
+                self.write(Call::Operate { transaction, object, operation, key, value: transaction });
+            }
         }
     }
 

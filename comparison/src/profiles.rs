@@ -24,6 +24,8 @@ pub struct Profile {
     pub set_ups: usize,
     /// Of a hundred scripts, how many begin with the set up.
     pub set_up_first: usize,
+    /// How many rings of transactions, each of which depends on the next, there are before the end.
+    pub rings: usize,
     /// Of a hundred scripts, how many end by reading what is there.
     pub reading: usize,
     /// The fewest lines, and how many more there may be, the end apart.
@@ -45,6 +47,7 @@ const USUAL: Profile = Profile {
     damaged: 1,
     set_ups: 0,
     set_up_first: 100,
+    rings: 0,
     reading: 60,
     lines: (40, 80),
     scripts: 0,
@@ -54,7 +57,7 @@ const USUAL: Profile = Profile {
 const FULL: Profile =
     Profile { transactions: 3, keys: 80, weights: [4, 94, 2, 0], adding: 88, lines: (80, 60), scripts: 150, ..USUAL };
 
-pub const PROFILES: [Profile; 23] = [
+pub const PROFILES: [Profile; 24] = [
     Profile {
         name: "stacks, for cycles",
         kinds: &[1, 1, 1],
@@ -62,6 +65,15 @@ pub const PROFILES: [Profile; 23] = [
         weights: [25, 60, 13, 2],
         adding: 90,
         scripts: 5000,
+        ..USUAL
+    },
+    Profile {
+        name: "rings, for long cycles",
+        kinds: &[1, 1, 1, 2, 1, 1, 3],
+        transactions: 9,
+        rings: 2,
+        lines: (5, 25),
+        scripts: 600,
         ..USUAL
     },
     Profile { name: "one object of each kind", wild: 4, scripts: 3500, ..USUAL },

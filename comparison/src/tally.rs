@@ -2,8 +2,10 @@
 
 use std::collections::BTreeMap;
 
+use reference::call::Call;
 use reference::Reply;
 
+use crate::common::graph::{Live, ACTIVE_BETWEEN, CIRCLE, FAR_CIRCLE, SETS_APART};
 use crate::difference;
 use crate::replies::{self, Printed};
 use crate::script::{Line, Script};
@@ -11,10 +13,10 @@ use crate::script::{Line, Script};
 const CASCADE: &str = "list with two or more others";
 const UNREAD_BATCH: &str = "batch: unread";
 
-/// Every reply that a script can reach, those to batches apart. It can't reach 1, 2 and 4: the program lends a whole
-/// book and a whole list, and every call leaves a sound book. Nor can it reach 12: too many numbers, or too few, are
-/// `unread`.
-pub const ROWS: [&str; 37] = [
+/// Every reply that a script can reach, those to batches apart, and the finishes that tell a right test for a circle
+/// from wrong ones. It can't reach 1, 2 and 4: the program lends a whole book and a whole list, and every call leaves a
+/// sound book. Nor can it reach 12: too many numbers, or too few, are `unread`.
+pub const ROWS: [&str; 41] = [
     "ok",
     "answer, code 0",
     "answer, code 1",
@@ -28,6 +30,10 @@ pub const ROWS: [&str; 37] = [
     "cancelled alone",
     "cancelled with others",
     CASCADE,
+    CIRCLE,
+    FAR_CIRCLE,
+    ACTIVE_BETWEEN,
+    SETS_APART,
     "refused 3",
     "refused 5",
     "refused 6",
@@ -64,10 +70,12 @@ impl Tally {
 
     /// Counts the lines of a script's output; those that cannot be read are left to the checks.
     pub fn count(&mut self, script: &Script, output: &[u8]) {
+        let mut live = Live::default();
         for (index, (line, reply)) in script.lines.iter().zip(difference::lines(output)).enumerate() {
             let reply = reply.strip_suffix(b"\n").unwrap_or(reply);
             if let Some(printed) = replies::read(reply, line.is_batch()) {
                 self.count_line(line, &printed, script.together.contains(&index));
+                self.count_finish(line, &printed, &mut live);
             }
         }
     }
@@ -81,6 +89,17 @@ impl Tally {
         }
         self.add(CASCADE, u64::from(others(printed) >= 2));
         self.add(UNREAD_BATCH, u64::from(*printed == Printed::Unread && line.bytes.starts_with(b"G ")));
+    }
+
+    /// Counts a finish by those who are live, as the lines and replies before tell; then they follow this one.
+    fn count_finish(&mut self, line: &Line, printed: &Printed, live: &mut Live) {
+        if let (Some(call), Printed::Said(outcome, list)) = (&line.call, printed) {
+            if let (&Call::Finish { transaction }, Ok(reply)) = (call, outcome) {
+                let circle = matches!(reply, Reply::Circle { .. });
+                live.finishes(transaction, circle).for_each(|row| self.add(row, 1));
+            }
+            live.record(call, *outcome, list);
+        }
     }
 
     pub fn join(&mut self, other: &Tally) {

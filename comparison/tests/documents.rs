@@ -1,5 +1,5 @@
 //! The documents hold: what they link to is there, and so are the paths, functions, laws, theorems and must-fail edits
-//! that they name; the promises name every edit; the sessions in the README are what the desk prints, and its C is C; the
+//! that they name; the promises name every edit; the sessions are what the desk prints, and the README's C is C; the
 //! records shown are records. The proved whole case is that of the listing.
 
 use std::collections::BTreeSet;
@@ -371,9 +371,10 @@ fn sessions_are_what_the_desk_prints() {
     let _ = fs::remove_dir_all(&folder);
     fs::create_dir_all(&folder).expect("a folder is made");
     symlink(root().canonicalize().expect("it is there").join("desk"), folder.join("desk")).expect("a link is made");
-    let sessions = sessions(&Document::read("README.md"));
-    assert!(sessions.len() >= 5, "the README has sessions");
-    for (command, expected) in sessions {
+    symlink(root().canonicalize().expect("it is there").join("examples"), folder.join("examples"))
+        .expect("a link is made");
+    assert!(sessions(&Document::read("README.md")).len() >= 5, "the README has sessions");
+    for (command, expected) in Document::all().iter().flat_map(sessions) {
         let output = Command::new("bash").args(["-c", &command]).current_dir(&folder).output().expect("bash starts");
         assert_eq!(String::from_utf8_lossy(&output.stdout), expected, "{command}");
         assert_eq!(String::from_utf8_lossy(&output.stderr), "", "{command}");

@@ -1,8 +1,9 @@
-//! The paper's whole case, its samples that are only run, and samples of batches, on both programs.
+//! The paper's whole case, its samples that are only run, samples of batches, and table 1 of the article on
+//! recoverability, on both programs.
 
 use std::fs;
 
-use comparison::common::{columns, WHOLE_CASE};
+use comparison::common::{columns, TABLE_1, WHOLE_CASE};
 use comparison::difference;
 use comparison::program::{saved, Program};
 
@@ -138,6 +139,12 @@ fn push_64_is_taken_and_the_next_refused() {
 #[test]
 fn circle_over_two_stacks_ends_the_one_that_closes_it() {
     assert_printed(circle());
+}
+
+/// What each finish finds is in the second implementation's samples.
+#[test]
+fn table_1_is_printed() {
+    assert_printed(columns(TABLE_1));
 }
 
 #[test]

@@ -3,11 +3,13 @@
 
 use std::collections::HashSet;
 use std::io::{self, Write};
+use std::iter;
 use std::sync::{Arc, Mutex};
 
 use comparison::batches::{together, OPERATION};
 use comparison::call_lists::call_list;
 use comparison::common::draws::Draws;
+use comparison::common::graph::{Live, ACTIVE_BETWEEN, CIRCLE, FAR_CIRCLE, SETS_APART};
 use comparison::common::{kind_word, sixteen, status_word, BATCH_LIMIT, LIST_LENGTH, LOG_LIMIT, WORDS};
 use comparison::profiles::{Profile, PROFILES};
 use comparison::stores;
@@ -33,8 +35,8 @@ const ANYTHING: [u32; 10] = [0, 15, 16, 17, 63, 64, 65, 255, 1 << 31, u32::MAX];
 
 /// What the columns of the table of replies count.
 const CALLS: [&str; 7] = ["set up", "begin", "operate", "batch", "finish", "cancel", "contents"];
-/// Every reply, and which calls say it, by their places in `CALLS`.
-const REPLIES: [(&str, &[usize]); 34] = [
+/// Every reply, some of them told apart further, and which calls say it, by their places in `CALLS`.
+const REPLIES: [(&str, &[usize]); 38] = [
     ("ok", &[0, 1]),
     ("wait for one", &[2, 3]),
     ("wait for more than one", &[2, 3]),
@@ -49,6 +51,10 @@ const REPLIES: [(&str, &[usize]); 34] = [
     ("committed with others", &[4]),
     ("circle alone", &[4]),
     ("circle with others", &[4]),
+    (CIRCLE, &[4]),
+    (FAR_CIRCLE, &[4]),
+    (ACTIVE_BETWEEN, &[4]),
+    (SETS_APART, &[4]),
     ("cancelled alone", &[5]),
     ("cancelled with others", &[5]),
     ("no rows", &[6]),
@@ -170,6 +176,10 @@ fn rows(call: &AnyCall, store: &[u32], numbers: &Numbers) -> Vec<String> {
     let row = numbers.row();
     let (transaction, operations) = match call {
         AnyCall::Lettered(Call::Batch { transaction, operations }) => (*transaction, operations),
+        AnyCall::Lettered(Call::Finish { transaction }) if numbers.refusal() == 0 => {
+            let finishes = Live::of(store).finishes(*transaction, is_circle(numbers));
+            return iter::once(row).chain(finishes.map(String::from)).collect();
+        }
         _ => return vec![row],
     };
     let outcome = calls::batch(&mut store.to_vec(), transaction, operations);
@@ -180,6 +190,10 @@ fn rows(call: &AnyCall, store: &[u32], numbers: &Numbers) -> Vec<String> {
         0 => vec![row, "wait, together".to_string()],
         _ => vec![format!("{row}, together"), row],
     }
+}
+
+fn is_circle(numbers: &Numbers) -> bool {
+    matches!(numbers, Numbers::Ended(raw::Ended { code: 4, .. }))
 }
 
 fn hash(store: &[u32]) -> u64 {
@@ -393,22 +407,22 @@ fn print_tables(pass: &Pass) -> io::Result<()> {
         "\ncalls on two copies of one book, by the proved library and by the second implementation: {}",
         pass.calls
     )?;
-    write!(stderr, "{:<24}", "")?;
+    write!(stderr, "{:<42}", "")?;
     CALLS.iter().try_for_each(|call| write!(stderr, "{call:>10}"))?;
     writeln!(stderr)?;
     for (reply, calls) in REPLIES {
-        write!(stderr, "{reply:<24}")?;
+        write!(stderr, "{reply:<42}")?;
         for (call, tally) in pass.replies.iter().enumerate() {
             let times = if calls.contains(&call) { tally.of(reply).to_string() } else { String::new() };
             write!(stderr, "{times:>10}")?;
         }
         writeln!(stderr)?;
     }
-    writeln!(stderr, "{:<24}{:>20}{:>20}", "different books", "refused with 4", "not refused with 4")?;
+    writeln!(stderr, "{:<42}{:>20}{:>20}", "different books", "refused with 4", "not refused with 4")?;
     for ((_, origin), Books { refused, taken }) in ORIGINS.iter().zip(&pass.books) {
-        writeln!(stderr, "{origin:<24}{:>20}{:>20}", refused.len(), taken.len())?;
+        writeln!(stderr, "{origin:<42}{:>20}{:>20}", refused.len(), taken.len())?;
     }
-    writeln!(stderr, "{:<24}{:>20}{:>20}", "in all", pass.refused(|_| true), pass.taken(|_| true))
+    writeln!(stderr, "{:<42}{:>20}{:>20}", "in all", pass.refused(|_| true), pass.taken(|_| true))
 }
 
 #[test]
@@ -627,6 +641,42 @@ const WRONG_WITH_BATCHES: [(&str, Desk); 13] = [
     }),
 ];
 
+/// The second implementation, but that finishes of one kind are no circle where they are one, and else are one.
+fn mistaking(kind: &str, call: &AnyCall, store: &mut [u32], list: &mut [u8]) -> Served {
+    let (before, bytes) = (store.to_vec(), list.to_vec());
+    let served = second(call, store, list);
+    let transaction = match *call {
+        AnyCall::Lettered(Call::Finish { transaction }) if served.numbers.refusal() == 0 => transaction,
+        _ => return served,
+    };
+    let (live, circle) = (Live::of(&before), is_circle(&served.numbers));
+    if live.finishes(transaction, circle).all(|finish| finish != kind) {
+        return served;
+    }
+    store.copy_from_slice(&before);
+    list.copy_from_slice(&bytes);
+    if circle {
+        store[status_word(transaction as usize)] = 2 + live.pseudo_committed.len() as u32;
+        return ended_with(raw::Ended { code: 2, ..raw::Ended::default() });
+    }
+    match second(&AnyCall::Lettered(Call::Cancel { transaction }), store, list).numbers {
+        Numbers::Ended(cancelled) => ended_with(raw::Ended { code: 4, ..cancelled }),
+        other => panic!("{other:?} to a cancel"),
+    }
+}
+
+fn ended_with(ended: raw::Ended) -> Served {
+    Served { numbers: Numbers::Ended(ended), rows: Vec::new() }
+}
+
+/// The second implementation, but for what it takes for a circle.
+const WRONG_AT_CIRCLES: [(&str, Desk); 4] = [
+    ("calls no circle", |call, store, list| mistaking(CIRCLE, call, store, list)),
+    ("looks for a circle at near ones alone", |call, store, list| mistaking(FAR_CIRCLE, call, store, list)),
+    ("calls a circle through an open one", |call, store, list| mistaking(ACTIVE_BETWEEN, call, store, list)),
+    ("calls a circle where two sets don't meet", |call, store, list| mistaking(SETS_APART, call, store, list)),
+];
+
 /// The second implementation, but for one thing.
 const WRONG_DESKS: [(&str, Desk); 14] = [
     ("writes a byte past the count", |call, store, list| {
@@ -720,7 +770,7 @@ fn wrong_desks_are_noticed() {
     for profile in &PROFILES {
         assert_eq!(walk(second, profile), Ok(()));
     }
-    for (what, desk) in WRONG_DESKS.into_iter().chain(WRONG_WITH_BATCHES) {
+    for (what, desk) in WRONG_DESKS.into_iter().chain(WRONG_WITH_BATCHES).chain(WRONG_AT_CIRCLES) {
         let noticed = PROFILES.iter().find_map(|profile| walk(desk, profile).err());
         let noticed = noticed.unwrap_or_else(|| panic!("not noticed: one that {what}"));
         assert!(!noticed.contains("panics"), "one that {what}: {noticed}");

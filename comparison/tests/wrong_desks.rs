@@ -324,6 +324,66 @@ fn desk_that_calls_a_circle_through_an_open_handout_is_noticed_by_comparison() {
     assert_eq!(case.broken(), None);
 }
 
+/// Three of whom each has looked for a key that another then inserts: 1 depends on 0, 2 on 1 and 0 on 2, so that no two
+/// depend on each other but through the third. They finish, the last one with the reply given.
+fn circle_of_three(reply: &str) -> Case {
+    Case::of(&format!(
+        "S 2             ok
+         B 0             ok
+         B 1             ok
+         B 2             ok
+         I 0 0 6 1 0     answer 0 0
+         I 1 0 4 1 0     answer 1 0
+         I 1 0 6 2 0     answer 0 0
+         I 2 0 4 2 0     answer 1 0
+         I 2 0 6 3 0     answer 0 0
+         I 0 0 4 3 0     answer 1 0
+         F 0             finished
+         F 1             finished
+         F 2             {reply}"
+    ))
+}
+
+/// Whichever order it commits them in, somebody's key is there already.
+#[test]
+fn desk_that_misses_a_circle_of_far_ones_and_commits_is_noticed() {
+    circle_of_three("circle 0 1").assert_right();
+    for reply in ["committed 2 0 1", "committed 2 1 0", "committed 2 0", "committed 2 1", "committed 2"] {
+        let case = circle_of_three(reply);
+        assert_eq!(case.difference(), Some(12), "{reply}");
+        assert!(case.broken().is_some(), "{reply}");
+    }
+}
+
+/// Demand 3 lets it through: who stays finished for ever alters nobody's answer.
+#[test]
+fn desk_that_misses_a_circle_of_far_ones_and_commits_nobody_is_noticed_by_comparison() {
+    let case = circle_of_three("finished");
+    assert_eq!(case.difference(), Some(12));
+    assert_eq!(case.broken(), None);
+}
+
+/// Demand 3 lets it through: who is cancelled for nothing alters nobody's answer.
+#[test]
+fn desk_that_calls_a_circle_where_two_sets_do_not_meet_is_noticed_by_comparison() {
+    let case = Case::of(
+        "S 1             ok
+         B 0             ok
+         B 1             ok
+         B 2             ok
+         B 3             ok
+         I 0 0 1 1 0     answer 1 0
+         I 1 0 1 2 0     answer 1 0
+         I 2 0 1 3 0     answer 1 0
+         I 3 0 1 4 0     answer 1 0
+         F 1             finished
+         F 3             finished
+         F 2             circle",
+    );
+    assert_eq!(case.difference(), Some(11));
+    assert_eq!(case.broken(), None);
+}
+
 /// Demand 3 lets it through: those that are ready at once commute.
 #[test]
 fn desk_that_commits_by_number_is_noticed_by_comparison() {

@@ -1,8 +1,9 @@
-//! The paper's whole case and samples, through the script program.
+//! The paper's whole case and samples, through the script program; and table 1 of the article on recoverability.
 
 mod common;
 
-use common::{assert_printed, printed, WHOLE_CASE};
+use common::graph::{Live, Transactions};
+use common::{assert_printed, printed, transcript_lines, Scheduler, TABLE_1, WHOLE_CASE};
 use reference::rules::{commutes, recoverable};
 
 const PUSH: u32 = 1;
@@ -150,4 +151,31 @@ fn circle_over_two_stacks() {
          F 0             finished
          F 1             circle 0",
     );
+}
+
+#[test]
+fn table_1() {
+    assert_printed(TABLE_1);
+}
+
+/// The sets before each finish of table 1, as its first phase collects them: transaction, SUCC, PRED. Of PRED(T3) it
+/// prints 1 alone; since 2 depends on 1 and 4 on 2, both are in it by the definition. Its second phase has no
+/// counterpart here, where no sets are kept.
+const SETS_OF_TABLE_1: [(u32, &[u32], &[u32]); 5] =
+    [(4, &[], &[]), (1, &[], &[]), (2, &[1], &[4]), (5, &[], &[1, 2, 4]), (3, &[4, 2, 1], &[1, 2, 4])];
+
+#[test]
+fn sets_of_table_1() {
+    let mut scheduler = Scheduler::of(&[]);
+    let mut sets = Vec::new();
+    for (line, reply) in transcript_lines(TABLE_1) {
+        if let Some(transaction) = line.strip_prefix("F ") {
+            let transaction = transaction.parse().expect("a number");
+            let [pred, succ] = Live::of(&scheduler.store).graph().sets(transaction);
+            sets.push((transaction, succ, pred));
+        }
+        assert_eq!(scheduler.say(line), reply, "{line}");
+    }
+    let set = |transactions: &[u32]| transactions.iter().copied().collect::<Transactions>();
+    assert_eq!(sets, SETS_OF_TABLE_1.map(|(transaction, succ, pred)| (transaction, set(succ), set(pred))));
 }

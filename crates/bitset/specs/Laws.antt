@@ -1,6 +1,6 @@
 -- The members of the sets that a shift, `|`, `&` and `!` make, the test of one bit, and the lowest member; sets by
 -- their members, by predicates that tell them, and one by one.
-use mathlib.Core.Path.{_≡_, refl, sym, ap, ap₂, _∙_}
+use mathlib.Core.Path.{_≡_, refl, sym, ap, ap₂, _∙_, subst}
 use mathlib.Core.List.{List, _∷_}
 use mathlib.Core.Bool.{Bool, true, false, cond, not, _&&_, _||_, true≢false, false≢true, and-eq-true-iff}
 use mathlib.Core.Bool.{and-true, and-false}
@@ -85,7 +85,7 @@ first : (s : ℕ) → has s 0 ≡ eqb (s % 2) 1
 unfolding has
 first s = rw div-one
 
-pub no-members : (s : ℕ) → ((h : ℕ) → has s h ≡ false) → s ≡ 0
+no-members : (s : ℕ) → ((h : ℕ) → has s h ≡ false) → s ≡ 0
 no-members =
     bin-ind (λ (s : ℕ). ((h : ℕ) → has s h ≡ false) → s ≡ 0) (λ none. refl)
     (λ (s : ℕ) (upper : ((h : ℕ) → has (s / 2) h ≡ false) → s / 2 ≡ 0) (none : (h : ℕ) → has s h ≡ false).
@@ -123,11 +123,10 @@ implied : (p q : Bool) → (p ≡ true → q ≡ true) → p && q ≡ p
 implied true q f = f refl
 implied false q f = refl
 
--- A part that lacks a member is less as a number.
-part-less : (a b h : ℕ) → ((k : ℕ) → has a k ≡ true → has b k ≡ true) → has a h ≡ false → has b h ≡ true → a < b
-part-less a b h part lacks member =
+-- A part that is not the whole is less as a number, so that a set which grows, or shrinks, does not do so for ever.
+pub part-less : (a b : ℕ) → ((k : ℕ) → In a k → In b k) → (a ≡ b → ⊥) → a < b
+part-less a b part other =
     let meet : bitAnd a b ≡ a = same-members (bitAnd a b) a (λ k. met a b k ∙ implied (has a k) (has b k) (part k)) in
-    let other : a ≡ b → ⊥ = λ (e : a ≡ b). true≢false (sym member ∙ ap (λ (s : ℕ). has s h) (sym e) ∙ lacks) in
     omega (arith, and-le-r a b)
 
 -- ---- The set without one, and the lowest member
@@ -196,7 +195,7 @@ above-self (suc n) = omega (arith, pow-suc 2 n, above-self n)
 pub some-member : (s : ℕ) → (s ≡ 0 → ⊥) → (h : ℕ) × (has s h ≡ true)
 some-member s some = (trailingZeros s s, lowest-bit s s (above-self s) some .0)
 
--- ---- Members of a union, and of a set without one
+-- ---- Members of a union, of an intersection, and of a set of one or without one
 
 pub either : (a b : Bool) → ((a || b) ≡ true) ↔ ((a ≡ true) ⊎ (b ≡ true))
 either true b = (λ e. inl refl, λ s. refl)
@@ -205,6 +204,13 @@ either false b = (inr, ⊎-elim (λ e. absurd (false≢true e)) (λ e. e))
 pub in-union : (r a b : ℕ) → Members r (λ h. has a h || has b h) → (h : ℕ) → In r h ↔ (In a h ⊎ In b h)
 in-union r a b union h =
     (λ m. either (has a h) (has b h) .0 (sym (union h) ∙ m), λ m. union h ∙ either (has a h) (has b h) .1 m)
+
+pub in-meet : (r a b : ℕ) → Members r (λ h. has a h && has b h) → (h : ℕ) → In r h ↔ (In a h × In b h)
+in-meet r a b meet h =
+    let both = and-eq-true-iff (has a h) (has b h) in (λ m. both .0 (sym (meet h) ∙ m), λ m. meet h ∙ both .1 m)
+
+pub in-single : (r t : ℕ) → Members r (λ h. eqb h t) → (h : ℕ) → In r h ↔ (h ≡ t)
+in-single r t single h = (λ m. eqb-true h t (sym (single h) ∙ m), λ e. single h ∙ eq-eqb h t e)
 
 pub in-rest : (r s t : ℕ) → Members r (λ h. has s h && not (eqb h t)) → (h : ℕ) → In r h ↔ (In s h × (h ≡ t → ⊥))
 in-rest r s t rest h = (
@@ -242,7 +248,7 @@ holds-join P Q s t u p q m b = (
 pub holds-including : (P : ℕ → Type 0) (h s : ℕ) → Holds s P → Holds (including h s) (λ b. (b ≡ h) ⊎ P b)
 holds-including P h s p =
     holds-join (λ b. b ≡ h) P (2 ^ h) s (including h s)
-    (λ b. (λ m. eqb-true b h (sym (power h b) ∙ m), λ e. power h b ∙ eq-eqb b h e)) p (joined (2 ^ h) s)
+    (in-single (2 ^ h) h (power h)) p (joined (2 ^ h) s)
 
 pub holds-without : (P : ℕ → Type 0) (s t u : ℕ) → Holds s P → Members u (λ b. has s b && not (eqb b t))
     → Holds u (λ b. P b × (b ≡ t → ⊥))
@@ -268,9 +274,9 @@ below-64 s below =
 
 -- A set without one of its members is less as a number, so that a walk over the members ends.
 pub rest-less : (r s t : ℕ) → Members r (λ h. has s h && not (eqb h t)) → In s t → r < s
-rest-less r s t rest =
-    part-less r s t (λ h m. in-rest r s t rest h .0 m .0)
-    (rest t ∙ ap (λ (b : Bool). has s t && not b) (eq-eqb t t refl) ∙ and-false (has s t))
+rest-less r s t rest member =
+    part-less r s (λ h m. in-rest r s t rest h .0 m .0)
+    (λ (e : r ≡ s). in-rest r s t rest t .0 (subst (λ (x : ℕ). In x t) (sym e) member) .1 refl)
 
 -- ---- The members one by one
 

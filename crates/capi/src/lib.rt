@@ -123,7 +123,7 @@ pub extern "C" fn lending_desk_finish(book: &mut [u32], transaction: u32, list: 
     ensures { λ r. ⌜ exported (now (book .exit)) (now (list .exit)) r
         ≡ written ended (calls.finish base whetherSound (now (book .entry)) transaction (now (list .entry))) ⌝ }
 {
-    let n = codes::numbers_of(scheduler::finish(book, transaction, list));
+    let n = codes::numbers_of(finishing::finish(book, transaction, list));
     Ended {
         refusal: n.refusal,
         code: n.code,
@@ -136,7 +136,7 @@ pub extern "C" fn lending_desk_cancel(book: &mut [u32], transaction: u32, list: 
     ensures { λ r. ⌜ exported (now (book .exit)) (now (list .exit)) r
         ≡ written ended (calls.cancel base whetherSound (now (book .entry)) transaction (now (list .entry))) ⌝ }
 {
-    let n = codes::numbers_of(scheduler::cancel(book, transaction, list));
+    let n = codes::numbers_of(finishing::cancel(book, transaction, list));
     Ended {
         refusal: n.refusal,
         code: n.code,

@@ -5,12 +5,17 @@ use mathlib.Core.Logic.{_↔_}
 use mathlib.Core.List.{List, _++_}
 use lib.ListN.{length, drop}
 use Rattle.bitset.specs.Bitset.{Holds, Represents}
-use Rattle.cycles.specs.Cycles.{EdgeIn}
-use Rattle.store.specs.Store.{PseudoCommitted}
+use Rattle.graph.specs.Edges.{EdgeIn}
+use Rattle.store.specs.Store.{pseudoCommitted, Store, PseudoCommitted, pseudoCommittedCount}
+use Rattle.store.specs.Steps.{withStatus}
 use Rattle.store.specs.Dependency.{DependsOn}
 use Rattle.store.specs.Layout.{Packed, encode, decode, base}
 use Rattle.store.specs.Soundness.{Unsettled}
 use Rattle.protocol.specs.Ending.{Settlement}
+
+-- As finish leaves a transaction that is neither aborted nor committed: with the next rank.
+abbrev pub pseudoCommit : ℕ → Store → Store
+pseudoCommit t s = withStatus t (pseudoCommitted (pseudoCommittedCount s)) s
 
 -- The 64 sets are those of the book's dependencies, and `finished` that of the pseudo-committed ones; all else is
 -- sound, but that somebody may be ready.

@@ -10,7 +10,7 @@ ghost use Rattle.store.specs.Soundness.{EntriesFit, Room};
 ghost use Rattle.store.specs.Dependency.{Ready};
 ghost use Rattle.protocol.specs.Ending.{carriedOut, ended, commit as Commit, lowestReady, settledAll, committedFirst};
 ghost use Rattle.ending.specs.Nobody.{Names};
-ghost use Rattle.ending.specs.Ending.{Tracked, Forgotten, Concluded};
+ghost use Rattle.ending.specs.Ending.{Tracked, Forgotten, Concluded, pseudoCommit};
 
 // Stands for no transaction.
 const NOBODY: u32 = TRANSACTIONS as u32;
@@ -64,7 +64,7 @@ fn lowest_ready(book: &[u32], edges: &[u64; TRANSACTIONS], finished: u64) -> u32
     while left != 0 {
         let transaction = bitset::lowest(left);
         let status = statuses::status_word(book, transaction);
-        if status - FIRST_RANK < rank && cycles::ready(edges, transaction) {
+        if status - FIRST_RANK < rank && graph::ready(edges, transaction) {
             lowest = transaction;
             rank = status - FIRST_RANK;
         }
@@ -109,6 +109,15 @@ fn commit_ready(
         list[count] = transaction as u8;
         count += 1;
     }
+}
+
+// An active transaction becomes pseudo-committed, last in the order of finishing.
+pub fn pseudo_commit(book: &mut [u32], transaction: u32)
+    requires { ⌜ Packed base (now book) × (transaction < transactionCount) ⌝ }
+    ensures { λ r. ⌜ now (book .exit) ≡ encode base (pseudoCommit transaction (decode base (now (book .entry)))) ⌝ }
+{
+    let rank = statuses::next_rank(book);
+    statuses::set_status(book, transaction, FIRST_RANK + rank);
 }
 
 // Aborts an active transaction; those that then depend on nobody commit. Of `edges`, on whom each depends, nothing is

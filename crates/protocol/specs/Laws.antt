@@ -5,6 +5,7 @@ pub mod Ending
 pub mod Settling
 pub mod Waiting
 pub mod Listing
+pub mod Attempts
 pub mod Detours
 pub mod Keeping
 pub mod Batches

@@ -7,3 +7,4 @@ pub mod Terms
 pub mod Counterexamples
 pub mod Laws
 pub mod Theorems
+pub mod Samples

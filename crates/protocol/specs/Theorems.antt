@@ -19,12 +19,12 @@ use Rattle.operations.specs.Laws.Objects.{object}
 use Rattle.bitset.specs.Bitset.{In, Holds, members, size}
 use Rattle.store.specs.Store.{absent, active, pseudoCommitted, Logged, Store, statusOf, Active, PseudoCommitted}
 use Rattle.store.specs.Store.{pseudoCommittedCount, objectOf, onObject}
-use Rattle.store.specs.Dependency.{Any, DependsOn, Ready, Leads, OnCycle}
+use Rattle.store.specs.Dependency.{Any, DependsOn, Ready, Leads, PRED, SUCC, Meet}
 use Rattle.store.specs.Layout.{decode, word, rowsStart, readKind, joined, rowWords, Representable, base}
 use Rattle.store.specs.Steps.{withLog, appended, without, withStatus}
 use Rattle.store.specs.Soundness.{Unsettled, Sound}
 use Rattle.store.specs.Decisions.{whetherSound}
-use Rattle.store.specs.Theorems.{representable, none-left}
+use Rattle.store.specs.Theorems.{representable, cycle-met, none-left}
 use Rattle.store.specs.Laws.Changes.{representable-status}
 use Rattle.protocol.specs.Replies.{Served, ok, answered, wait, finished, committed, circle, cancelled, counted}
 use Rattle.protocol.specs.Replies.{refused}
@@ -461,23 +461,25 @@ module _ (w : List ℕ) (t : ℕ) (list : List ℕ) (accepted : endReason base w
       rw (protocol.finishing w t list accepted)
       (Iff·trans (protocol.circle-exactly before t list) (protocol.any-circle w t list accepted))
 
-  -- that is where some pseudo-committed one is both among those that it depends on, by ways through such, and among
-  -- those that depend on it;
-  pub finish-circle-shared : ((n : ℕ) × (ending .outcome .reply ≡ circle n))
-      ↔ ((u : ℕ) × PseudoCommitted before u × Leads (DependsOn (before .log)) (PseudoCommitted before) t u
-      × Leads (DependsOn (before .log)) (PseudoCommitted before) u t)
-  finish-circle-shared = Iff·trans finish-circle (protocol.circle-shared (before .log) (PseudoCommitted before) t)
+  -- that is where its predecessors and successors meet (document 000, section 4.2.1);
+  pub finish-circle-met : ((n : ℕ) × (ending .outcome .reply ≡ circle n))
+      ↔ Meet (PRED before t) (SUCC before t)
+  finish-circle-met = Iff·trans finish-circle (cycle-met before t)
 
   -- it commits exactly where it depends on nobody;
   pub finish-committed : ((n : ℕ) × (ending .outcome .reply ≡ committed n)) ↔ Ready (before .log) t
   finish-committed = rw (protocol.finishing w t list accepted) (protocol.committed-exactly before t list)
 
-  -- it is pseudo-committed exactly where neither is so;
+  -- it is pseudo-committed exactly where they stay apart and it depends on somebody;
   pub finish-finished : (ending .outcome .reply ≡ finished)
-      ↔ ((OnCycle before t → ⊥) × ((u : ℕ) × DependsOn (before .log) t u))
-  finish-finished = rw (protocol.finishing w t list accepted) (protocol.finished-exactly before t list)
+      ↔ ((Meet (PRED before t) (SUCC before t) → ⊥) × ((u : ℕ) × DependsOn (before .log) t u))
+  finish-finished =
+      let met = Iff·trans (protocol.any-circle w t list accepted) (cycle-met before t) in
+      rw (protocol.finishing w t list accepted)
+      (Iff·trans (protocol.finished-exactly before t list)
+      (Iff·and (λ off m. off (met .1 m), λ apart c. apart (met .0 c)) Iff·rfl))
 
-  -- and there is no fourth reply. Cancel has one.
+  -- and there is no fourth reply. Cancel has a single one.
   pub finish-either : ((n : ℕ) × (ending .outcome .reply ≡ circle n))
       ⊎ ((n : ℕ) × (ending .outcome .reply ≡ committed n)) ⊎ (ending .outcome .reply ≡ finished)
   finish-either = rw (protocol.finishing w t list accepted) (protocol.one-of-three before t list)

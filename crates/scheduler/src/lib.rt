@@ -1,4 +1,4 @@
-// The seven calls (document 01, "Calls", and 02), contents with its twin. None asks anything of its arguments.
+// The calls (document 01, "Calls", and 02) but finish and cancel. None asks anything of its arguments.
 use operations::Answer;
 use protocol::Batched;
 use protocol::Reply;
@@ -104,43 +104,6 @@ pub fn batch(book: &mut [u32], transaction: u32, operations: &[u32]) -> Batched
         count: operations.len() / protocol::OPERATION_WORDS,
         answers: batches::enter_each(book, transaction, operations),
     }
-}
-
-pub fn finish(book: &mut [u32], transaction: u32, list: &mut [u8]) -> Reply
-    ensures { λ r. ⌜ served (now (book .exit)) (outcome (replyOf r) (now (list .exit)) [])
-        ≡ calls.finish base whetherSound (now (book .entry)) transaction (now (list .entry)) ⌝ }
-{
-    let mut edges = [0u64; layout::TRANSACTIONS];
-    let examined = sound::examined(book, &mut edges);
-    let reason = refusals::end(book, transaction, list.len(), examined.sound);
-    if reason != protocol::ACCEPTED {
-        return Reply::Refused(reason);
-    }
-    if cycles::on_cycle(&edges, examined.finished, transaction) {
-        let count = ending::abort(book, transaction, &mut edges, examined.finished, list);
-        return Reply::Circle(count as u32);
-    }
-    if cycles::ready(&edges, transaction) {
-        let count = ending::commit_active(book, transaction, &mut edges, examined.finished, list);
-        return Reply::Committed(count as u32);
-    }
-    let rank = statuses::next_rank(book);
-    statuses::set_status(book, transaction, statuses::FIRST_RANK + rank);
-    Reply::Finished
-}
-
-pub fn cancel(book: &mut [u32], transaction: u32, list: &mut [u8]) -> Reply
-    ensures { λ r. ⌜ served (now (book .exit)) (outcome (replyOf r) (now (list .exit)) [])
-        ≡ calls.cancel base whetherSound (now (book .entry)) transaction (now (list .entry)) ⌝ }
-{
-    let mut edges = [0u64; layout::TRANSACTIONS];
-    let examined = sound::examined(book, &mut edges);
-    let reason = refusals::end(book, transaction, list.len(), examined.sound);
-    if reason != protocol::ACCEPTED {
-        return Reply::Refused(reason);
-    }
-    let committed = ending::abort(book, transaction, &mut edges, examined.finished, list);
-    Reply::Cancelled(committed as u32)
 }
 
 // The object's rows, two words each: that part of the book itself, empty where refused.

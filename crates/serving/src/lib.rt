@@ -5,9 +5,7 @@ use operations::Answer;
 use protocol::Batched;
 use protocol::Reply;
 ghost use mathlib.Core.Path.{_≡_};
-ghost use mathlib.Core.List.{[]};
 ghost use Prim.Native.Nat.{_*_, _≤_};
-ghost use lib.ListN.{replicate};
 ghost use Rattle.protocol.specs.Calls.{operationWords, batchLimit};
 ghost use Rattle.protocol.specs.ReplyOf.{Filled};
 ghost use Rattle.lines.specs.Coded.{callOf, wordsOf};
@@ -75,11 +73,11 @@ pub fn serve(book: &mut [u32], asked: Line) -> Told
             batched: scheduler::batch(book, transaction, &operations[..words]),
         },
         Call::Finish(transaction) => {
-            let reply = scheduler::finish(book, transaction, &mut list);
+            let reply = finishing::finish(book, transaction, &mut list);
             tell(Said::Read(reply, layout::LIST), list)
         }
         Call::Cancel(transaction) => {
-            let reply = scheduler::cancel(book, transaction, &mut list);
+            let reply = finishing::cancel(book, transaction, &mut list);
             tell(Said::Read(reply, layout::LIST), list)
         }
         Call::Unread => tell(Said::Unread, list),

@@ -9,12 +9,12 @@ use Rattle.bitset.specs.Bitset.{Holds, Represents, In}
 use Rattle.operations.specs.Laws.Cases.{no, denied}
 use Rattle.store.specs.Layout.{BookLong}
 use Rattle.store.specs.Store.{Store, Live, PseudoCommitted}
-use Rattle.store.specs.Dependency.{DependsOn, Way, OnCycle}
+use Rattle.store.specs.Dependency.{DependsOn, Way}
 use Rattle.sound.specs.Examined.{Bounded}
 use Rattle.store.specs.Soundness.{EntriesLive, Acyclic, Dependent}
 use Rattle.store.specs.Laws.Dependencies.{depended-on}
 use Rattle.store.specs.Laws.Ways.{way-monotone}
-use Rattle.cycles.specs.Cycles.{EdgeIn}
+use Rattle.graph.specs.Edges.{EdgeIn}
 
 -- A clause that fails refuses the whole.
 pub refused : {b : Bool} {P Q : Type 0} → (b ≡ true) ↔ P → b ≡ false → (Q → P) → (false ≡ true) ↔ Q
@@ -35,18 +35,19 @@ last decided whole part = (λ e. whole (decided .0 e), λ q. decided .1 (part q)
 -- What the sets of dependency say is said of the store.
 module _ (s : Store) (sets : List ℕ) (finished : ℕ) (edges : Represents sets (DependsOn (s .log)))
     (members : Holds finished (PseudoCommitted s)) where
-  pub cycle-said : (t : ℕ) → Way (EdgeIn sets) (In finished) 64 t t ↔ OnCycle s t
-  cycle-said t = (
-    way-monotone (EdgeIn sets) (DependsOn (s .log)) (In finished) (PseudoCommitted s) (λ a b. edges a b .0)
-        (λ c. members c .0) 64 64 (le-refl 64) t t,
-    way-monotone (DependsOn (s .log)) (EdgeIn sets) (PseudoCommitted s) (In finished) (λ a b. edges a b .1)
-        (λ c. members c .1) 64 64 (le-refl 64) t t,
+  pub way-said : (n a b : ℕ)
+      → Way (EdgeIn sets) (In finished) n a b ↔ Way (DependsOn (s .log)) (PseudoCommitted s) n a b
+  way-said n a b = (
+    way-monotone (EdgeIn sets) (DependsOn (s .log)) (In finished) (PseudoCommitted s) (λ x y. edges x y .0)
+        (λ c. members c .0) n n (le-refl n) a b,
+    way-monotone (DependsOn (s .log)) (EdgeIn sets) (PseudoCommitted s) (In finished) (λ x y. edges x y .1)
+        (λ c. members c .1) n n (le-refl n) a b,
   )
 
   pub acyclic-said : ((t : ℕ) → In finished t → Way (EdgeIn sets) (In finished) 64 t t → ⊥) ↔ Acyclic s
   acyclic-said = (
-    λ none t p w. none t (members t .1 p) (cycle-said t .1 w),
-    λ none t p w. none t (members t .0 p) (cycle-said t .0 w),
+    λ none t p w. none t (members t .1 p) (way-said 64 t t .1 w),
+    λ none t p w. none t (members t .0 p) (way-said 64 t t .0 w),
   )
 
   pub dependent-said : EntriesLive s → ((t : ℕ) → In finished t → (u : ℕ) × EdgeIn sets t u) ↔ Dependent s

@@ -58,11 +58,11 @@ pub fn examined(book: &[u32], edges: &mut [u64; TRANSACTIONS]) -> Examination
     if !dependencies::conflicts(book, &representatives, edges) {
         return unsound;
     }
-    if !cycles::acyclic(edges, summary.finished) {
+    if !graph::acyclic(edges, summary.finished) {
         return unsound;
     }
     Examination {
-        sound: cycles::dependent(edges, summary.finished),
+        sound: graph::dependent(edges, summary.finished),
         finished: summary.finished,
     }
 }

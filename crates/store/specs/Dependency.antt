@@ -1,4 +1,4 @@
--- Document 01, "Pair rules": on whom a transaction depends; and circles (cycles) of dependency.
+-- Document 01, "Pair rules": on whom a transaction depends; circles (cycles) of dependency; predecessors, successors.
 use Prim.Native.Nat.{ℕ, zero, suc}
 use mathlib.Core.Path.{_≡_}
 use mathlib.Core.Bool.{false}
@@ -44,7 +44,30 @@ module _ (Edge : ℕ → ℕ → Type 0) (Through : ℕ → Type 0) where
   abbrev pub Leads : ℕ → ℕ → Type 0
   Leads a b = (n : ℕ) × Way n a b
 
+  -- The predecessors of t: the others of that sort from which a way leads to t,
+  abbrev pub Predecessor : ℕ → ℕ → Type 0
+  Predecessor t u = (u ≡ t → ⊥) × Through u × Leads u t
+
+  -- and its successors, to which one leads from t.
+  abbrev pub Successor : ℕ → ℕ → Type 0
+  Successor t u = (u ≡ t → ⊥) × Through u × Leads t u
+
 -- The transaction lies on a cycle whose other members are all pseudo-committed (finished). There are 64 transactions,
 -- so 64 steps lead round any cycle.
 abbrev pub OnCycle : Store → ℕ → Type 0
 OnCycle s t = Way (DependsOn (s .log)) (PseudoCommitted s) transactionCount t t
+
+-- ---- The sets of document 000, section 4.2.1 (02, No. 4)
+
+-- An edge of its commit dependency graph leads from a transaction to one that it depends on (definition 5). So PRED(t)
+-- are the pseudo-committed (finished) ones that depend on t, and SUCC(t) those on whom t depends: near and far, by ways
+-- whose every node but t is pseudo-committed. t itself is in neither.
+abbrev pub PRED : Store → ℕ → ℕ → Type 0
+PRED s = Predecessor (DependsOn (s .log)) (PseudoCommitted s)
+
+abbrev pub SUCC : Store → ℕ → ℕ → Type 0
+SUCC s = Successor (DependsOn (s .log)) (PseudoCommitted s)
+
+-- The two have a member in common.
+abbrev pub Meet : (ℕ → Type 0) → (ℕ → Type 0) → Type 0
+Meet P Q = (u : ℕ) × P u × Q u

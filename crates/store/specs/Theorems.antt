@@ -1,20 +1,21 @@
 -- What holds of the store (document 01, "The book"), its words and its dependencies.
 use Prim.Native.Nat.{ℕ, _<_}
-use mathlib.Core.Path.{_≡_}
-use mathlib.Core.Logic.{_↔_}
+use mathlib.Core.Path.{_≡_, refl}
+use mathlib.Core.Logic.{_↔_, _⊎_}
 use mathlib.Core.List.{List}
 use lib.ListN.{length, replicate, length-replicate}
 use Rattle.operations.specs.PairRules.{commutes}
 use Rattle.operations.specs.Operations.{Kind}
 use Rattle.operations.specs.Log.{Commuting, one}
 use Rattle.store.specs.Store.{Logged, Store, Active, PseudoCommitted, onObject}
-use Rattle.store.specs.Dependency.{DependsOn, Leads, OnCycle}
+use Rattle.store.specs.Dependency.{DependsOn, Leads, OnCycle, PRED, SUCC, Meet}
 use Rattle.store.specs.Layout.{encode, decode, Packed, Representable, base}
 use Rattle.store.specs.Soundness.{Acyclic, Dependent, Sound}
 use Rattle.store.specs.Laws.Words.{zeros-word}
 use Rattle.store.specs.Laws.Encoding.{decoded-representable, encoded-decoded, decoded-encoded, encoded-packed}
 use Rattle.store.specs.Laws.Objects.{base-laid}
 use Rattle.store.specs.Laws.Empty.{base-zeros-sound}
+use Rattle.store.specs.Laws.Ways.{predecessor-from-near, successor-from-near, meets-on-cycle}
 use Rattle.store.specs.Laws.Cycles as cycles
 use Rattle.store.specs.Laws.Dependencies.{ready-commuting, commuting-ready}
 
@@ -52,6 +53,28 @@ depends-on-nobody reduce kind t log = (ready-commuting reduce kind t log, commut
 pub cycle-any-length : (s : Store) → length (s .statuses) ≡ 64 → (t : ℕ) → t < 64
     → OnCycle s t ↔ Leads (DependsOn (s .log)) (PseudoCommitted s) t t
 cycle-any-length = cycles.cycle-any-length
+
+-- Document 000, section 4.2.1, formulas i) and ii): in PRED and SUCC are the near pseudo-committed ones and those in
+-- theirs; t itself is left out.
+pub pred-from-near : (s : Store) (t u : ℕ)
+    → PRED s t u
+    ↔ ((u ≡ t → ⊥) × ((p : ℕ) × PseudoCommitted s p × DependsOn (s .log) p t × ((u ≡ p) ⊎ PRED s p u)))
+pred-from-near s = predecessor-from-near (DependsOn (s .log)) (PseudoCommitted s)
+
+pub succ-from-near : (s : Store) (t u : ℕ)
+    → SUCC s t u
+    ↔ ((u ≡ t → ⊥) × ((n : ℕ) × PseudoCommitted s n × DependsOn (s .log) t n × ((u ≡ n) ⊎ SUCC s n u)))
+succ-from-near s = successor-from-near (DependsOn (s .log)) (PseudoCommitted s)
+
+-- Its theorem 2: a transaction lies on a cycle whose other members are all pseudo-committed exactly where the two meet,
+pub cycle-met : (s : Store) (t : ℕ)
+    → Leads (DependsOn (s .log)) (PseudoCommitted s) t t ↔ Meet (PRED s t) (SUCC s t)
+cycle-met s t = meets-on-cycle (DependsOn (s .log)) (PseudoCommitted s) t (λ d. d .0 refl)
+
+-- so that the sets of one that lies on none stay apart.
+pub sets-apart : (s : Store) → length (s .statuses) ≡ 64 → (t : ℕ) → t < 64 → (OnCycle s t → ⊥)
+    → Meet (PRED s t) (SUCC s t) → ⊥
+sets-apart s sized t l off met = off (cycle-any-length s sized t l .1 (cycle-met s t .1 met))
 
 -- Document 01: "When no handout is open, none is left finished."
 pub none-left : (s : Store) → length (s .statuses) ≡ 64 → Acyclic s → Dependent s → ((t : ℕ) → Active s t → ⊥)

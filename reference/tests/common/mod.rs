@@ -9,6 +9,7 @@ use reference::call::Call;
 use reference::{calls, script, Outcome, Reply};
 
 pub mod draws;
+pub mod graph;
 pub mod protocol;
 
 pub const WORDS: usize = 3937;
@@ -24,6 +25,10 @@ pub const UNREDUCED: u32 = 16_777_216;
 pub const BLANK: u8 = 0xA5;
 /// The paper's whole case.
 pub const WHOLE_CASE: &str = include_str!("../../../examples/whole_case.txt");
+/// Table 1 of section 4.2.1 of the article on recoverability: dependencies as its figure 6 may have them, 4 on 2, 2 on
+/// 1, 1 on 5, 1 on 3 and 3 on 4, a stack for each; then the finishes in the table's order. Transaction 5 depends on
+/// nobody and commits, where the table says P-C; the others do once 3 has aborted.
+pub const TABLE_1: &str = include_str!("../../../examples/table_1.txt");
 
 pub type Entry = [u32; 7];
 

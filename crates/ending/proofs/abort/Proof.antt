@@ -26,9 +26,7 @@ commit-ready-requires c κs =
     let forget = c .before .before .before in
     let end = ended forget in
     let pre = start end .pre in
-    let args = start end .args in
-    abort-settles (args .book .now) (args .edges .now) (args .finished) (pre .0) (args .transaction) (pre .1) _ _
-    (forget .forget .ensures) (end .end .ensures) _ (omega (arith, pre .2))
+    abort-settles (pre .0) (pre .1) _ (forget .forget .ensures) (end .end .ensures) _ (omega (arith, pre .2))
 
 returns : tie.Need-returns
 returns c =
@@ -36,9 +34,7 @@ returns c =
     let forget = settle .before .before .before .before in
     let end = ended forget in
     let pre = start end .pre in
-    let args = start end .args in
-    abort-settled (args .book .now) (args .edges .now) (args .finished) (pre .0) (args .transaction) (pre .1) _ _
-    (forget .forget .ensures) (end .end .ensures) _ _ _ _ (settle .commit-ready .ensures)
+    abort-settled (pre .0) (pre .1) _ (forget .forget .ensures) (end .end .ensures) _ (settle .commit-ready .ensures)
 
 pub abort-spec : {M : Type 1} → statement M
 abort-spec =

@@ -39,8 +39,7 @@ commit-ready-requires c κs =
     let commit = committed forget in
     let pre = start commit .pre in
     let args = start commit .args in
-    commit-settles (args .book .now) (args .edges .now) (args .finished) (pre .0) (args .transaction) (pre .1) _ _
-    (forget .forget .ensures) (pre .2) (commit .commit .ensures) _
+    commit-settles (pre .0) (pre .1) _ (forget .forget .ensures) (pre .2) (commit .commit .ensures) _
     (omega (arith, pre .3, rest-length (args .list .now) (args .transaction)))
 
 add-result : tie.Need-add-result
@@ -52,8 +51,7 @@ add-result c =
     let args = start commit .args in
     omega (
       arith,
-      commit-counted (args .book .now) (args .edges .now) (args .finished) (pre .0) (args .transaction) (pre .1) _ _
-          (forget .forget .ensures) (pre .2) (commit .commit .ensures) (args .list .now) _ _ _
+      commit-counted (pre .0) (pre .1) _ (forget .forget .ensures) (pre .2) (commit .commit .ensures) (args .list .now)
           (settle .commit-ready .ensures),
     )
 
@@ -69,9 +67,8 @@ returns c =
     let commit = committed forget in
     let pre = start commit .pre in
     let args = start commit .args in
-    commit-first (args .book .now) (args .edges .now) (args .finished) (pre .0) (args .transaction) (pre .1) _ _
-    (forget .forget .ensures) (pre .2) (commit .commit .ensures) (args .list .now) _ _ _ (settle .commit-ready .ensures)
-    (omega (arith, pre .3))
+    commit-first (pre .0) (pre .1) _ (forget .forget .ensures) (pre .2) (commit .commit .ensures) (args .list .now)
+    (settle .commit-ready .ensures) (omega (arith, pre .3))
 
 pub commit-active-spec : {M : Type 1} → statement M
 commit-active-spec =

@@ -21,86 +21,69 @@ abbrev μ-loop : tie.MeasureT-loop
 μ-loop book₀ edges₀ finished list₀ left₀ count₀ book edges list left count = pseudoCommittedCount (decode base book)
 
 loop-holds : tie.Need-loop-holds Inv-loop μ-loop
-loop-holds c =
-    let start = c .before .before in
-    let args = start .args in
-    settling-begun (args .book .now) (args .list .now) (args .edges .now) (args .finished) (start .pre .0)
-    (start .pre .1)
+loop-holds c = let pre = c .before .before .pre in settling-begun (pre .0) (pre .1)
+
+abbrev at-loop : tie.After-lowest-ready Inv-loop μ-loop → tie.At-loop Inv-loop μ-loop
+at-loop c = c .before .before .before
 
 lowest-ready-requires : tie.Need-lowest-ready-requires Inv-loop μ-loop
 lowest-ready-requires c κs = c .before .before .loop .inv .book
 
 same-length : tie.Need-same-length Inv-loop μ-loop
 same-length c =
-    let at-loop = c .before .before .before .before in
+    let at-loop = at-loop (c .before) in
     at-loop .loop .inv .book .packed .words ∙ sym (at-loop .before .before .before .pre .0 .packed .words)
 
 same-length-2 : tie.Need-same-length-2 Inv-loop μ-loop
-same-length-2 c = c .before .before .before .before .loop .inv .whole
+same-length-2 c = at-loop (c .before) .loop .inv .whole
 
 returns : tie.Need-returns Inv-loop μ-loop
 returns c =
-    let at-loop = c .before .before .before .before in
-    let args = at-loop .before .before .before .args in
-    let loop = at-loop .loop in
-    settling-ended (args .book .now) (args .list .now) (loop .book) (loop .list) (loop .edges) (loop .left)
-    (loop .count) (loop .inv)
+    let loop = at-loop (c .before) .loop in
+    settling-ended (loop .inv)
     (names-nobody _ (lowestReady (decode base (loop .book))) (c .before .lowest-ready .ensures) (c .if1 .taken))
 
 -- The one that commits now.
 next : (c : tie.Else1 Inv-loop μ-loop)
     → let t = c .before .lowest-ready .result in
-    (lowestReady (decode base (c .before .before .before .before .loop .book)) ≡ some t) × (t < 64)
+    (lowestReady (decode base (at-loop (c .before) .loop .book)) ≡ some t) × (t < 64)
 next c =
-    names-somebody _ (lowestReady (decode base (c .before .before .before .before .loop .book)))
+    names-somebody _ (lowestReady (decode base (at-loop (c .before) .loop .book)))
     (c .before .lowest-ready .ensures) (c .if1 .left)
 
 commit-requires : tie.Need-commit-requires Inv-loop μ-loop
 commit-requires c κs =
-    let book = c .before .before .before .before .before .loop .inv .book in
+    let book = at-loop (c .before .before) .loop .inv .book in
     (book .packed, next (c .before) .1, book .unsettled .fits, book .unsettled .room)
 
 forget-requires : tie.Need-forget-requires Inv-loop μ-loop
 forget-requires c κs =
     let turn = c .before .before .before .before .before in
-    (turn .before .before .before .before .loop .inv .book .whole, next turn .1)
+    (at-loop (turn .before) .loop .inv .book .whole, next turn .1)
 
 abbrev turn : tie.After-without Inv-loop μ-loop → tie.Else1 Inv-loop μ-loop
 turn c = c .before .before .before .before .before .before .before
 
 inside : (c : tie.After-without Inv-loop μ-loop)
-    → turn c .before .before .before .before .loop .count < length (turn c .before .before .before .before .loop .list)
-inside c =
-    let at-loop = turn c .before .before .before .before in
-    let args = at-loop .before .before .before .args in
-    let loop = at-loop .loop in
-    within (args .book .now) (args .list .now) (loop .book) (loop .list) (loop .edges) (loop .left) (loop .count)
-    (loop .inv) _ (next (turn c) .0)
+    → let loop = at-loop (turn c .before) .loop in loop .count < length (loop .list)
+inside c = within (at-loop (turn c .before) .loop .inv) (next (turn c) .0)
 
 add-count : tie.Need-add-count Inv-loop μ-loop
 add-count c =
-    let at-loop = turn c .before .before .before .before in
+    let at-loop = at-loop (turn c .before) in
     omega (arith, inside c, at-loop .loop .inv .whole, at-loop .before .before .before .good .1 .1 .1 .0)
 
 loop-less : tie.Need-loop-less Inv-loop μ-loop
 loop-less c =
-    let at-loop = turn c .before .before .before .before in
-    let args = at-loop .before .before .before .args in
-    let loop = at-loop .loop in
     let forget = c .before in
-    settling-less (args .book .now) (args .list .now) (loop .book) (loop .list) (loop .edges) (loop .left) (loop .count)
-    (loop .inv) _ (next (turn c) .0) _ _ (c .without .result) (forget .forget .ensures) (c .without .ensures)
-    (forget .before .before .before .before .commit .ensures)
+    settling-less (at-loop (turn c .before) .loop .inv) (next (turn c) .0) _ (forget .forget .ensures)
+    (c .without .ensures) (forget .before .before .before .before .commit .ensures)
 
 loop-again : tie.Need-loop-again Inv-loop μ-loop
 loop-again c =
-    let at-loop = turn c .before .before .before .before in
-    let args = at-loop .before .before .before .args in
-    let loop = at-loop .loop in
     let forget = c .before in
-    settling-more (args .book .now) (args .list .now) (loop .book) (loop .list) (loop .edges) (loop .left) (loop .count)
-    (loop .inv) _ (next (turn c) .0) _ _ (c .without .result) (forget .forget .ensures) (c .without .ensures)
-    (forget .before .before .before .before .commit .ensures)
+    settling-more (at-loop (turn c .before) .loop .inv) (next (turn c) .0) _ (forget .forget .ensures)
+    (c .without .ensures) (forget .before .before .before .before .commit .ensures)
 
 pub commit-ready-spec : {M : Type 1} → statement M
 commit-ready-spec =

@@ -53,13 +53,12 @@ itself-first r (x ∷ list) t book last count l (e, f, g) =
 -- ---- What is left to settle
 
 -- An active one is not in the set of the pseudo-committed ones.
-not-member : (w sets : List ℕ) (finished : ℕ) → Tracked w sets finished → (t : ℕ) → Active (decode base w) t
+not-member : {w sets : List ℕ} {finished : ℕ} → Tracked w sets finished → (t : ℕ) → Active (decode base w) t
     → (u : ℕ) → In finished u ↔ (In finished u × (u ≡ t → ⊥))
-not-member w sets finished h t a u =
-    (λ m. (m, active-apart (decode base w) t u a (h .members u .0 m)), λ m. m .0)
+not-member {w} h t a u = (λ m. (m, active-apart (decode base w) t u a (h .members u .0 m)), λ m. m .0)
 
-module _ (w sets : List ℕ) (finished : ℕ) (h : Tracked w sets finished) (t : ℕ) (a : Active (decode base w) t)
-    (after left : List ℕ) (forgot : Forgotten t sets left) where
+module _ {w sets : List ℕ} {finished : ℕ} (h : Tracked w sets finished) {t : ℕ} (a : Active (decode base w) t)
+    (after : List ℕ) {left : List ℕ} (forgot : Forgotten t sets left) where
   -- What `commit_ready` asks, of a list of n bytes.
   abbrev Settleable : ℕ → Type 0
   Settleable n = Tracked after left finished × (pseudoCommittedCount (decode base after) ≤ n)
@@ -70,23 +69,23 @@ module _ (w sets : List ℕ) (finished : ℕ) (h : Tracked w sets finished) (t :
 
   module _ (written : after ≡ encode base (ended t (decode base w))) where
     aborted : Tracked after left finished × (decode base after ≡ ended t (decode base w))
-    aborted = ended-tracked w sets finished h t after left finished forgot (not-member w sets finished h t a) written
+    aborted = ended-tracked h after finished forgot (not-member h t a) written
 
     pub abort-settles : (n : ℕ) → 63 ≤ n → Settleable n
     abort-settles =
         settleable (ended t (decode base w)) aborted
         (ended-count (decode base w) t (representable w (h .packed) .statuses) a)
 
-    pub abort-settled : (list book last : List ℕ) (count : ℕ)
+    pub abort-settled : (list : List ℕ) {book last : List ℕ} {count : ℕ}
         → Concluded (settledAll (decode base after)) list book last count
         → Concluded (settledAll (ended t (decode base w))) list book last count
-    abort-settled list book last count =
+    abort-settled list {book} {last} {count} =
         subst (λ (s : Store). Concluded (settledAll s) list book last count) (aborted .1)
 
   module _ (ready : Ready (decode base w .log) t) (written : after ≡ encode base (commit t (decode base w))) where
     committed : Tracked after left finished × (decode base after ≡ commit t (decode base w))
     committed =
-        commit-tracked w sets finished h t after left finished forgot (not-member w sets finished h t a) ready written
+        commit-tracked h after finished forgot (not-member h t a) ready written
 
     few-left : pseudoCommittedCount (commit t (decode base w)) < 64
     few-left = commit-count (decode base w) t (representable w (h .packed) .statuses) a
@@ -100,7 +99,7 @@ module _ (w sets : List ℕ) (finished : ℕ) (h : Tracked w sets finished) (t :
     commit-settled list book last count =
         subst (λ (s : Store). Concluded (settledAll s) list book last count) (committed .1)
 
-    module _ (list book last : List ℕ) (count : ℕ)
+    module _ (list : List ℕ) {book last : List ℕ} {count : ℕ}
         (c : Concluded (settledAll (decode base after)) (restOf list t) book last count) where
       pub commit-counted : count < 64
       commit-counted =

@@ -12,7 +12,7 @@ use lib.Seq.{getD-set-same, getD-set-other}
 use Rattle.operations.specs.Laws.Cases.{split, by-key}
 use Rattle.bitset.specs.Bitset.{has, Members}
 use Rattle.bitset.specs.Laws.{nobody-in, in-rest}
-use Rattle.cycles.specs.Cycles.{EdgeIn}
+use Rattle.graph.specs.Edges.{EdgeIn}
 use Rattle.ending.specs.Ending.{Forgotten}
 
 module _ (sets : List ℕ) (t : ℕ) where

@@ -10,7 +10,7 @@ use lib.Dec.{eqb, ltb}
 use Rattle.operations.specs.Laws.Cases.{split, by-key}
 use Rattle.bitset.specs.Bitset.{has, In, Members, Holds, Represents}
 use Rattle.bitset.specs.Laws.{nobody-in, in-rest}
-use Rattle.cycles.specs.Cycles.{EdgeIn}
+use Rattle.graph.specs.Edges.{EdgeIn}
 use Rattle.store.specs.Store.{pseudoCommitted, Store, statusOf, PseudoCommitted}
 use Rattle.store.specs.Dependency.{DependsOn, Ready}
 use Rattle.store.specs.Layout.{Packed, base, decode, statusWord, word}

@@ -26,8 +26,8 @@ use Rattle.ending.specs.Laws.Books.{Encodes, held, is-packed, is-decoded
 
 -- ---- The book and its dependencies
 
-module _ (w sets : List ℕ) (finished : ℕ) (h : Tracked w sets finished) (t : ℕ) (after left : List ℕ) (rest : ℕ)
-    (forgot : Forgotten t sets left) (removed : (u : ℕ) → In rest u ↔ (In finished u × (u ≡ t → ⊥))) where
+module _ {w sets : List ℕ} {finished : ℕ} (h : Tracked w sets finished) {t : ℕ} (after : List ℕ) {left : List ℕ}
+    (rest : ℕ) (forgot : Forgotten t sets left) (removed : (u : ℕ) → In rest u ↔ (In finished u × (u ≡ t → ⊥))) where
   abbrev s : Store
   s = decode base w
 
@@ -103,9 +103,10 @@ module _ (start first : List ℕ) where
     pub leads : let rest = settledAll (decode base w) in
         settledAll (decode base start) ≡ settlement (rest .store) (done ++ rest .committed)
 
-  pub settling-begun : (sets : List ℕ) (finished : ℕ) → Tracked start sets finished
-      → pseudoCommittedCount (decode base start) ≤ length first → Settling start first sets finished 0
-  settling-begun sets finished h room =
+module _ {start first : List ℕ} where
+  pub settling-begun : {sets : List ℕ} {finished : ℕ} → Tracked start sets finished
+      → pseudoCommittedCount (decode base start) ≤ length first → Settling start first start first sets finished 0
+  settling-begun h room =
       record {
         book = h;
         done = [];
@@ -116,7 +117,7 @@ module _ (start first : List ℕ) where
         leads = refl;
       }
 
-  module _ (w list sets : List ℕ) (finished count : ℕ) (h : Settling w list sets finished count) where
+  module _ {w list sets : List ℕ} {finished count : ℕ} (h : Settling start first w list sets finished count) where
     -- None is ready.
     pub settling-ended : lowestReady (decode base w) ≡ none
         → Concluded (settledAll (decode base start)) first w list count
@@ -129,7 +130,7 @@ module _ (start first : List ℕ) where
         subst (λ (r : Settlement). Concluded r first w list count) (sym last)
         (held w (h .book .packed) .words, h .front, h .counted)
 
-    module _ (t : ℕ) (e : lowestReady (decode base w) ≡ some t) where
+    module _ {t : ℕ} (e : lowestReady (decode base w) ≡ some t) where
       is-lowest : LowestReady (decode base w) t
       is-lowest = lowest-is (decode base w) (representable w (h .book .packed) .statuses) t e
 
@@ -139,19 +140,18 @@ module _ (start first : List ℕ) where
       pub within : count < length list
       within = omega (arith, h .room, h .whole, falls)
 
-      module _ (after left : List ℕ) (rest : ℕ) (forgot : Forgotten t sets left)
+      module _ {after left : List ℕ} (rest : ℕ) (forgot : Forgotten t sets left)
           (removed : Members rest (λ u. has finished u && not (eqb u t)))
           (written : after ≡ encode base (commit t (decode base w))) where
         next : Tracked after left rest × (decode base after ≡ commit t (decode base w))
         next =
-            commit-tracked w sets finished (h .book) t after left rest forgot (in-rest rest finished t removed)
-            (is-lowest .ready) written
+            commit-tracked (h .book) after rest forgot (in-rest rest finished t removed) (is-lowest .ready) written
 
         pub settling-less : pseudoCommittedCount (decode base after) < pseudoCommittedCount (decode base w)
         settling-less = omega (arith, falls, ap (λ (s : Store). pseudoCommittedCount s) (next .1))
 
         -- The lowest ready one commits, and goes to the list.
-        pub settling-more : Settling after (set list count t) left rest (count + 1)
+        pub settling-more : Settling start first after (set list count t) left rest (count + 1)
         settling-more =
             let done = h .done ++ (t ∷ []) in
             let then = settledAll (commit t (decode base w)) in

@@ -13,22 +13,15 @@ way-kept Edge Edge′ Through f (suc n) a b p (inl e) = inl (f a b p e)
 way-kept Edge Edge′ Through f (suc n) a b p (inr (c, q, e, w)) =
     inr (c, q, f a c p e, way-kept Edge Edge′ Through f n c b q w)
 
-module _ (Edge : ℕ → ℕ → Type 0) where
-  -- Two ways after each other.
-  pub joined : (P : ℕ → Type 0) (n a b c : ℕ) → Way Edge P n a b → P b → Leads Edge P b c → Leads Edge P a c
-  joined P zero a b c w p v = absurd w
-  joined P (suc n) a b c (inl e) p v = (suc (v .0), inr (b, p, e, v .1))
-  joined P (suc n) a b c (inr (d, q, e, w)) p v = let r = joined P n d b c w p v in (suc (r .0), inr (d, q, e, r .1))
-
-  -- All nodes passed through are such, but for t.
-  module _ (P Q : ℕ → Type 0) (t : ℕ) (others : (c : ℕ) → P c → (c ≡ t → ⊥) → Q c) where
-    -- A way leaves out t, or leads there and on from it.
-    pub detour : (n a b : ℕ) → Way Edge P n a b → Way Edge Q n a b ⊎ (Leads Edge P a t × Leads Edge P t b)
-    detour zero a b w = absurd w
-    detour (suc n) a b (inl e) = inl (inl e)
-    detour (suc n) a b (inr (c, p, e, w)) =
-        same c t
-        (λ (q : c ≡ t). inr ((1, inl (subst (λ (x : ℕ). Edge a x) q e)), (n, subst (λ (x : ℕ). Way Edge P n x b) q w)))
-        (λ (other : c ≡ t → ⊥).
-        ⊎-elim (λ v. inl (inr (c, others c p other, e, v))) (λ v. inr ((suc (v .0 .0), inr (c, p, e, v .0 .1)), v .1))
-        (detour n c b w))
+-- All nodes passed through are such, but for t.
+module _ (Edge : ℕ → ℕ → Type 0) (P Q : ℕ → Type 0) (t : ℕ) (others : (c : ℕ) → P c → (c ≡ t → ⊥) → Q c) where
+  -- A way leaves out t, or leads there and on from it.
+  pub detour : (n a b : ℕ) → Way Edge P n a b → Way Edge Q n a b ⊎ (Leads Edge P a t × Leads Edge P t b)
+  detour zero a b w = absurd w
+  detour (suc n) a b (inl e) = inl (inl e)
+  detour (suc n) a b (inr (c, p, e, w)) =
+      same c t
+      (λ (q : c ≡ t). inr ((1, inl (subst (λ (x : ℕ). Edge a x) q e)), (n, subst (λ (x : ℕ). Way Edge P n x b) q w)))
+      (λ (other : c ≡ t → ⊥).
+      ⊎-elim (λ v. inl (inr (c, others c p other, e, v))) (λ v. inr ((suc (v .0 .0), inr (c, p, e, v .0 .1)), v .1))
+      (detour n c b w))

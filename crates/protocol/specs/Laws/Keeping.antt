@@ -26,7 +26,7 @@ use Rattle.store.specs.Theorems.{cycle-any-length}
 use Rattle.store.specs.Laws.Words.{below}
 use Rattle.store.specs.Laws.Dependencies.{depended-on}
 use Rattle.store.specs.Laws.Any.{any-some}
-use Rattle.store.specs.Laws.Ways.{widened, first-arrival}
+use Rattle.store.specs.Laws.Ways.{widened, joined, first-arrival}
 use Rattle.store.specs.Laws.Statuses.{absent-unranked, active-unranked, same-rank, active-live, pseudo-committed-live}
 use Rattle.store.specs.Laws.Statuses.{active-apart, live-within}
 use Rattle.store.specs.Laws.Capacity.{additions-first}
@@ -38,7 +38,7 @@ use Rattle.protocol.specs.Calls.{empty, owners, answerTo, entered}
 use Rattle.protocol.specs.Laws.Ranks.{ranks-counted}
 use Rattle.protocol.specs.Terms.{Passes}
 use Rattle.protocol.specs.Laws.Waiting.{none-owned}
-use Rattle.protocol.specs.Laws.Detours.{way-kept, joined, detour}
+use Rattle.protocol.specs.Laws.Detours.{way-kept, detour}
 
 -- ---- Set up
 

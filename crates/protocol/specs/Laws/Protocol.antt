@@ -26,7 +26,6 @@ use Rattle.protocol.specs.Replies.{Reply, answered, wait, finished, comm
 use Rattle.protocol.specs.Replies.{served}
 use Rattle.protocol.specs.Ending.{ended, commit, committedFirst, settledAll}
 use Rattle.protocol.specs.Terms.{Places}
-use Rattle.protocol.specs.Laws.Detours.{joined}
 use Rattle.protocol.specs.Laws.Reasons.{unless-accepted, operate-accepted, end-accepted}
 use Rattle.protocol.specs.Calls.{LentOperation, lentOperation, operationsIn, unless, owners, request, requested}
 use Rattle.protocol.specs.Calls.{answerTo, answersTo, awaited, respond, finishActive, batchReason, batch}
@@ -262,19 +261,6 @@ ready-leads-nowhere log Through zero t u ready w = w
 ready-leads-nowhere log Through (suc n) t u ready (inl d) = ready u d
 ready-leads-nowhere log Through (suc n) t u ready (inr (c, p, d, w)) = ready c d
 
--- One lies on a circle exactly where another such one is on a way from it and on a way to it: document 000's theorem 2.
-pub circle-shared : (log : List Logged) (Through : ℕ → Type 0) (t : ℕ)
-    → Leads (DependsOn log) Through t t
-    ↔ ((u : ℕ) × Through u × Leads (DependsOn log) Through t u × Leads (DependsOn log) Through u t)
-circle-shared log Through t =
-    (λ p. first-step (p .0) (p .1), λ h. joined (DependsOn log) Through (h .2 .0) t (h .0) t (h .2 .1) (h .1) (h .3))
-  where
-    first-step : (n : ℕ) → Way (DependsOn log) Through n t t
-        → (u : ℕ) × Through u × Leads (DependsOn log) Through t u × Leads (DependsOn log) Through u t
-    first-step zero w = absurd w
-    first-step (suc n) (inl d) = absurd (d .0 refl)
-    first-step (suc n) (inr (c, p, d, w)) = (c, p, (1, inl d), (n, w))
-
 module _ (s : Store) (t : ℕ) where
   abbrev OnCircle : Type 0
   OnCircle = OnCycle s t
@@ -294,17 +280,17 @@ module _ (s : Store) (t : ℕ) where
       tested (no n) (no m) = inr (inr (n, m))
 
 module _ (s : Store) (t : ℕ) (list : List ℕ) where
-  on-circle : OnCircle s t → finishActive base s t list ≡ concluded base circle list (settledAll (ended t s))
+  pub on-circle : OnCircle s t → finishActive base s t list ≡ concluded base circle list (settledAll (ended t s))
   on-circle c = let e = decide-iff (whetherOnCycle s t) .1 c in rw e refl
 
-  on-nobody : OnNobody s t → finishActive base s t list
+  pub on-nobody : OnNobody s t → finishActive base s t list
       ≡ concluded base committed list (committedFirst t (settledAll (commit t s)))
   on-nobody (n, r) =
       let e = not-decided (whetherOnCycle s t) n in
       let f = decide-iff (whetherReady (s .log) t) .1 r in
       rw (e, f) refl
 
-  on-others : OnOthers s t
+  pub on-others : OnOthers s t
       → finishActive base s t list
       ≡ served (encode base (withStatus t (pseudoCommitted (pseudoCommittedCount s)) s)) (outcome finished list [])
   on-others (n, m) =

@@ -153,6 +153,13 @@ pub unless-refused : (n : ℕ) (w list : List ℕ) (s : Served) → (n ≡ 0 →
 unless-refused zero w list s applies = absurd (applies refl)
 unless-refused (suc n) w list s applies = refl
 
+-- Likewise by a reason that was found.
+pub said-no : (n reason : ℕ) → reason ≡ n → (w list : List ℕ) (s : Served) → (reason ≡ 0 → ⊥)
+    → served w (outcome (refused reason) list []) ≡ unless n w list s
+said-no n reason found w list s applies =
+    ap (λ (m : ℕ). served w (outcome (refused m) list [])) found
+    ∙ sym (unless-refused n w list s (λ (e : n ≡ 0). applies (found ∙ e)))
+
 pub unless-accepted : (n : ℕ) (w list : List ℕ) (s : Served) → n ≡ 0 → unless n w list s ≡ s
 unless-accepted n w list s e = ap (λ (m : ℕ). unless m w list s) e
 

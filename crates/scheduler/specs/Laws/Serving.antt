@@ -1,48 +1,31 @@
 -- What a call leaves, from the reason that the code finds: refused where there is one, and else served.
 use Prim.Native.Nat.{ℕ, zero, suc, _+_, _*_, _/_}
 use mathlib.Core.Path.{_≡_, refl, sym, ap, ap₂, _∙_, subst}
-use mathlib.Core.Bool.{Bool, true, false, decide}
-use mathlib.Core.Logic.{_↔_}
 use mathlib.Core.List.{List, [], _∷_, map}
-use native.Mathlib.Omega.{arith}
 use lib.ListN.{length, take, drop}
 use lib.Seq.{take-append-seam}
 use Rattle.replay.specs.Laws.Lists.{map-take}
 use Rattle.operations.specs.Operations.{Operation, Answer}
 use Rattle.operations.specs.declared.Answer as answers
 use Rattle.operations.specs.Stored.{answerOf}
-use Rattle.store.specs.Store.{Status, active, pseudoCommitted, Store, objectOf, onObject}
-use Rattle.store.specs.Store.{pseudoCommittedCount}
-use Rattle.store.specs.Layout.{base, encode, decode, objectStart, readStatus, joined, rowWords}
-use Rattle.store.specs.Dependency.{Ready, OnCycle}
-use Rattle.store.specs.Soundness.{Sound}
-use Rattle.store.specs.Decisions.{whetherSound, whetherReady, whetherOnCycle}
+use Rattle.store.specs.Store.{active, objectOf, onObject}
+use Rattle.store.specs.Layout.{base, encode, decode, objectStart, joined, rowWords}
+use Rattle.store.specs.Decisions.{whetherSound}
 use Rattle.store.specs.Steps.{withStatus}
-use Rattle.store.specs.Laws.Deciding.{decided}
-use Rattle.statuses.specs.Laws.Words.{finished-read}
 use Rattle.bitset.specs.Bitset.{size}
-use Rattle.sound.specs.Examined.{Examined}
-use Rattle.ending.specs.Ending.{Tracked, Concluded}
-use Rattle.protocol.specs.Replies.{Reply, ok, answered, wait, counted, refused, Outcome, outcome, Served, served}
-use Rattle.protocol.specs.Replies as replies
-use Rattle.protocol.specs.Ending.{Settlement, ended, commit, committedFirst, settledAll}
+use Rattle.protocol.specs.Replies.{ok, answered, wait, counted, refused, outcome, Served, served}
 use Rattle.protocol.specs.Calls.{LentOperation}
 use Rattle.protocol.specs.Calls as calls
 use Rattle.protocol.specs.Laws.Leaving.{counted-part}
 use Rattle.protocol.specs.ReplyOf.{batchedOf, filled, Filled}
 use Rattle.protocol.specs.declared.Batched.{Batched}
 use Rattle.protocol.specs.declared.Reply.the-variants.{Answers, Wait, Refused}
-use Rattle.protocol.specs.Laws.Reasons.{unless-refused, unless-accepted}
+use Rattle.protocol.specs.Laws.Reasons.{unless-accepted, said-no}
 use Rattle.protocol.specs.Laws.Batches.{answers-counted}
 use Rattle.protocol.specs.Laws.Lent.{lent-count}
 use Rattle.scheduler.specs.Unanswered.{unanswered}
 
 module _ (n reason : ℕ) (found : reason ≡ n) (w list : List ℕ) (s : Served) where
-  said-no : (reason ≡ 0 → ⊥) → served w (outcome (refused reason) list []) ≡ calls.unless n w list s
-  said-no applies =
-      ap (λ (m : ℕ). served w (outcome (refused m) list [])) found
-      ∙ sym (unless-refused n w list s (λ (e : n ≡ 0). applies (found ∙ e)))
-
   accepted : reason ≡ 0 → s ≡ calls.unless n w list s
   accepted e = sym (unless-accepted n w list s (sym found ∙ e))
 
@@ -189,85 +172,3 @@ pub contents-handed : (w : List ℕ) (o : ℕ) (part : List ℕ) → part ≡ ca
     × ((n : ℕ) → calls.contents base whetherSound w o .outcome .reply ≡ counted n
     → part ≡ take (2 * n) (drop (objectStart o + 2) w))
 contents-handed w o part e = (e, λ n said. e ∙ counted-part w o n said)
-
--- ---- Finish and cancel
-
--- What `ending` asks of the book and of the sets found in it, where the book is sound.
-pub tracked : (w sets : List ℕ) (finished : ℕ) → Sound base w → Examined w finished sets → Tracked w sets finished
-tracked w sets finished sound found =
-    record {
-      packed = sound .packed;
-      unsettled = sound .store .unsettled;
-      whole = found .whole;
-      edges = found .represented;
-      members = found .members;
-    }
-
-module _ (w : List ℕ) (t : ℕ) (list : List ℕ) (reason : ℕ)
-    (found : reason ≡ calls.endReason base whetherSound w t list) where
-  abbrev s : Store
-  s = decode base w
-
-  pub finish-refused : (reason ≡ 0 → ⊥)
-      → served w (outcome (refused reason) list []) ≡ calls.finish base whetherSound w t list
-  unfolding calls.finish
-  finish-refused applies = said-no _ reason found w list _ applies
-
-  pub cancel-refused : (reason ≡ 0 → ⊥)
-      → served w (outcome (refused reason) list []) ≡ calls.cancel base whetherSound w t list
-  unfolding calls.cancel
-  cancel-refused applies = said-no _ reason found w list _ applies
-
-  module _ (e : reason ≡ 0) (book : List ℕ) where
-    -- The book holds what is left once transactions have ended, and list and count name those that committed.
-    concludes : (said : ℕ → Reply) (r : Settlement) (after : List ℕ) (count : ℕ) → Concluded r list book after count
-        → served book (outcome (said count) after []) ≡ calls.concluded base said list r
-    concludes said r after count c =
-        ap₂ (λ (x : List ℕ × List ℕ) (n : ℕ). served (x .0) (outcome (said n) (x .1) [])) (λ i. (c .0 i, c .1 i)) (c .2)
-
-    pub cancelled : (after : List ℕ) (count : ℕ) → Concluded (settledAll (ended t s)) list book after count
-        → served book (outcome (replies.cancelled count) after []) ≡ calls.cancel base whetherSound w t list
-    unfolding calls.cancel
-    cancelled after count c =
-        concludes replies.cancelled (settledAll (ended t s)) after count c ∙ accepted _ reason found w list _ e
-
-    module _ {cyclic : Bool} (cycle : (cyclic ≡ true) ↔ OnCycle s t) where
-      decided-cycle : decide (whetherOnCycle s t) ≡ cyclic
-      decided-cycle = decided (whetherOnCycle s t) cyclic cycle
-
-      pub circle : cyclic ≡ true → (after : List ℕ) (count : ℕ)
-          → Concluded (settledAll (ended t s)) list book after count
-          → served book (outcome (replies.circle count) after []) ≡ calls.finish base whetherSound w t list
-      unfolding calls.finish
-      circle found-one after count c =
-          let r = settledAll (ended t s) in
-          let chosen : calls.concluded base replies.circle list r ≡ calls.finishActive base s t list =
-          rw (decided-cycle ∙ found-one) refl in
-          concludes replies.circle r after count c ∙ chosen ∙ accepted _ reason found w list _ e
-
-      module _ (acyclic : cyclic ≡ false) {free : Bool} (ready : (free ≡ true) ↔ Ready (s .log) t) where
-        decided-ready : decide (whetherReady (s .log) t) ≡ free
-        decided-ready = decided (whetherReady (s .log) t) free ready
-
-        pub committed : free ≡ true → (after : List ℕ) (count : ℕ)
-            → Concluded (committedFirst t (settledAll (commit t s))) list book after count
-            → served book (outcome (replies.committed count) after []) ≡ calls.finish base whetherSound w t list
-        unfolding calls.finish
-        committed is-free after count c =
-            let r = committedFirst t (settledAll (commit t s)) in
-            let chosen : calls.concluded base replies.committed list r ≡ calls.finishActive base s t list =
-            rw (decided-cycle ∙ acyclic, decided-ready ∙ is-free) refl in
-            concludes replies.committed r after count c ∙ chosen ∙ accepted _ reason found w list _ e
-
-        pub finished : free ≡ false → (rank : ℕ) → rank ≡ pseudoCommittedCount s
-            → book ≡ encode base (withStatus t (readStatus (2 + rank)) s)
-            → served book (outcome replies.finished list []) ≡ calls.finish base whetherSound w t list
-        unfolding calls.finish
-        finished depends rank same written =
-            let next : readStatus (2 + rank) ≡ pseudoCommitted (pseudoCommittedCount s) =
-            finished-read (2 + rank) (omega arith) ∙ ap pseudoCommitted (omega arith) in
-            let given : Outcome = outcome replies.finished list [] in
-            let chosen : served (encode base (withStatus t (pseudoCommitted (pseudoCommittedCount s)) s)) given
-            ≡ calls.finishActive base s t list = rw (decided-cycle ∙ acyclic, decided-ready ∙ depends) refl in
-            ap (λ (x : List ℕ). served x given) (written ∙ ap (λ (x : Status). encode base (withStatus t x s)) next)
-            ∙ chosen ∙ accepted _ reason found w list _ e

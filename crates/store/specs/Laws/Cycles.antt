@@ -17,7 +17,7 @@ abbrev pub LeadsToActive : Store → ℕ → Type 0
 LeadsToActive s u = (v : ℕ) × Active s v × Leads (DependsOn (s .log)) Anyone u v
 
 module _ (s : Store) (sized : length (s .statuses) ≡ 64) where
-  within : (t : ℕ) → PseudoCommitted s t → t < 64
+  pub within : (t : ℕ) → PseudoCommitted s t → t < 64
   within t p = rw (← sized) (pseudo-committed-within s t p)
 
   -- A cycle of at most 64 steps is there exactly where one of any length is.

@@ -33,7 +33,7 @@ implies (yes p) d = alike (λ q h. q, λ f. f p) d
 implies (no n) d = yes (λ p. absurd (n p))
 
 -- The second is decided where the first holds.
-pub and-then : {P Q : Type 0} → Dec P → (P → Dec Q) → Dec (P × Q)
+abbrev pub and-then : {P Q : Type 0} → Dec P → (P → Dec Q) → Dec (P × Q)
 and-then (yes p) d = alike (λ q. (p, q), λ h. h .1) (d p)
 and-then (no n) d = no (λ h. n (h .0))
 

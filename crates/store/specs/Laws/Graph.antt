@@ -1,17 +1,20 @@
 -- Decisions about a store's dependencies. They compute, so that the desk does.
-use Prim.Native.Nat.{ℕ, zero, suc}
+use Prim.Native.Nat.{ℕ, zero, suc, _<_}
 use mathlib.Core.Path.{_≡_, refl}
 use mathlib.Core.Bool.{false, Bool-discrete}
 use mathlib.Core.Logic.{Dec·and, Dec·not, Dec·not-not}
 use mathlib.Core.List.{List}
 use native.Mathlib.Decide.{ℕ-discrete}
+use lib.ListN.{length}
 use Rattle.operations.specs.PairRules.{commutes}
 use Rattle.store.specs.Store.{Status, absent, active, pseudoCommitted, Logged, Store, statusOf, PseudoCommitted}
-use Rattle.store.specs.Dependency.{Any, Conflict, DependsOn, Ready, Way, OnCycle}
+use Rattle.store.specs.Dependency.{Any, Conflict, DependsOn, Ready, Way, Leads, OnCycle, PRED, SUCC}
 use Rattle.store.specs.Laws.Dependencies.{depended-on}
 use Rattle.store.specs.Laws.Any.{any-some, each-any}
 use Rattle.store.specs.Laws.Statuses.{absent-unranked, active-unranked}
-use Rattle.store.specs.Laws.Deciding.{alike, either, all-three, all-four, any, follows}
+use Rattle.store.specs.Laws.Ways.{shortened}
+use Rattle.store.specs.Laws.Cycles.{within}
+use Rattle.store.specs.Laws.Deciding.{alike, either, and-then, all-three, all-four, any, follows}
 
 abbrev conflict : (a b : ℕ) (e x : Logged) → Dec (Conflict a b e x)
 conflict a b e x =
@@ -61,3 +64,17 @@ module _ (s : Store) where
 
   abbrev pub cycle : (t : ℕ) → Dec (OnCycle s t)
   cycle t = way 64 t t
+
+  -- Of 64 transactions: a way of any length has one of at most 64 steps.
+  module _ (sized : length (s .statuses) ≡ 64) where
+    abbrev leads : (a b : ℕ) → b < 64 → Dec (Leads (DependsOn (s .log)) (PseudoCommitted s) a b)
+    leads a b l =
+        alike (λ w. (64, w), shortened (DependsOn (s .log)) (PseudoCommitted s) (within s sized) a b l) (way 64 a b)
+
+    abbrev pub predecessor : (t : ℕ) → t < 64 → (u : ℕ) → Dec (PRED s t u)
+    predecessor t l u = all-three (Dec·not (ℕ-discrete u t)) (pseudo-committed u) (leads u t l)
+
+    abbrev pub successor : (t u : ℕ) → Dec (SUCC s t u)
+    successor t u =
+        alike (λ p. (p .0, p .1 .0, p .1 .1), λ p. (p .0, (p .1, p .2)))
+        (Dec·and (Dec·not (ℕ-discrete u t)) (and-then (pseudo-committed u) (λ p. leads t u (within s sized u p))))

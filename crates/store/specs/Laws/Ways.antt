@@ -1,10 +1,10 @@
 -- Ways along the edges of a graph: a way of any length has a short one, and where each node leads on there is a cycle.
 use Prim.Native.Nat.{ℕ, zero, suc, _≤_, _<_}
-use mathlib.Core.Path.{_≡_, sym, subst, _∙_}
-use mathlib.Core.Logic.{_⊎_, inl, inr, ⊎-elim}
+use mathlib.Core.Path.{_≡_, refl, sym, subst, _∙_}
+use mathlib.Core.Logic.{_↔_, _⊎_, inl, inr, ⊎-elim}
 use native.Mathlib.Nat.{not-suc-le-zero, le-of-suc-le-suc, eq-or-lt-of-le, le-refl}
 use Rattle.operations.specs.Laws.Cases.{same}
-use Rattle.store.specs.Dependency.{Way, Leads}
+use Rattle.store.specs.Dependency.{Way, Leads, Predecessor, Successor, Meet}
 
 -- ---- At most n numbers are such
 
@@ -72,6 +72,12 @@ module _ (Edge : ℕ → ℕ → Type 0) where
   onward P (suc n) a b c (inl f) p e = inr (b, p, f, inl e)
   onward P (suc n) a b c (inr (d, q, f, w)) p e = inr (d, q, f, onward P n d b c w p e)
 
+  -- Two ways after each other.
+  pub joined : (P : ℕ → Type 0) (n a b c : ℕ) → Way Edge P n a b → P b → Leads Edge P b c → Leads Edge P a c
+  joined P zero a b c w p v = absurd w
+  joined P (suc n) a b c (inl e) p v = (suc (v .0), inr (b, p, e, v .1))
+  joined P (suc n) a b c (inr (d, q, e, w)) p v = let r = joined P n d b c w p v in (suc (r .0), inr (d, q, e, r .1))
+
   -- Up to the first arrival the end is not passed through.
   pub first-arrival : (P Q : ℕ → Type 0) (b : ℕ) → ((c : ℕ) → P c → (c ≡ b → ⊥) → Q c)
       → (n a : ℕ) → Way Edge P n a b → Way Edge Q n a b
@@ -93,6 +99,13 @@ module _ (Edge : ℕ → ℕ → Type 0) where
       (λ (other : d ≡ c → ⊥). inl (suc (v .0), inr (d, (p, other), e, v .1))))
       (λ (v : Leads Edge (Except c P) c b). inr v)
       (last-visit P c n d b w)
+
+  -- From the last departure on the start is not passed through.
+  pub last-departure : (P Q : ℕ → Type 0) (a : ℕ) → ((c : ℕ) → P c → (c ≡ a → ⊥) → Q c)
+      → (n b : ℕ) → Way Edge P n a b → Leads Edge Q a b
+  last-departure P Q a others n b w =
+      let v : Leads Edge (Except a P) a b = ⊎-elim (λ l. l) (λ l. l) (last-visit P a n a b w) in
+      (v .0, widened (Except a P) Q (λ (c : ℕ) (t : Except a P c). others c (t .0) (t .1)) (v .0) a b (v .1))
 
   -- The first step is the last one, or is to a node that the rest leaves out.
   first-step : (P : ℕ → Type 0) (n a b : ℕ) → Way Edge P n a b
@@ -133,6 +146,69 @@ module _ (Edge : ℕ → ℕ → Type 0) where
       (λ (c : ℕ) (w : Q c) (v : Leads Edge Q c c). acyclic c (w .0)
       (v .0, widened Q P (λ (x : ℕ) (y : Q x). y .0) (v .0) c c (v .1)))
       (q .0) (q .1, (1, inl (q .2)))
+
+-- The same way along edges turned round.
+turned-round : (Edge : ℕ → ℕ → Type 0) (P : ℕ → Type 0) (n a b : ℕ) → Way Edge P n a b
+    → Way (λ x y. Edge y x) P n b a
+turned-round Edge P zero a b w = absurd w
+turned-round Edge P (suc n) a b (inl e) = inl e
+turned-round Edge P (suc n) a b (inr (c, p, e, w)) =
+    onward (λ x y. Edge y x) P n b c a (turned-round Edge P n c b w) p e
+
+-- Successors are the near ones, and their successors.
+pub successor-from-near : (Edge : ℕ → ℕ → Type 0) (P : ℕ → Type 0) (t u : ℕ)
+    → Successor Edge P t u
+    ↔ ((u ≡ t → ⊥) × ((c : ℕ) × P c × Edge t c × ((u ≡ c) ⊎ Successor Edge P c u)))
+successor-from-near Edge P t u = (
+  λ p. (p .0, by-first (p .2 .0) (p .1) (p .2 .1)),
+  λ p. let (other, (c, q, e, on)) = p in
+      ⊎-elim
+      (λ (same : u ≡ c). (other, subst P (sym same) q, (1, inl (subst (λ (x : ℕ). Edge t x) (sym same) e))))
+      (λ (s : Successor Edge P c u). (other, s .1, (suc (s .2 .0), inr (c, q, e, s .2 .1))))
+      on,
+)
+  where
+    by-first : (n : ℕ) → P u → Way Edge P n t u → (c : ℕ) × P c × Edge t c × ((u ≡ c) ⊎ Successor Edge P c u)
+    by-first zero q w = absurd w
+    by-first (suc n) q (inl e) = (u, q, e, inl refl)
+    by-first (suc n) q (inr (c, p, e, w)) =
+        (c, p, e, same u c (λ (e : u ≡ c). inl e) (λ (other : u ≡ c → ⊥). inr (other, q, (n, w))))
+
+-- Predecessors are successors along the edges turned round.
+pub predecessor-reversed : (Edge : ℕ → ℕ → Type 0) (P : ℕ → Type 0) (t u : ℕ)
+    → Predecessor Edge P t u ↔ Successor (λ x y. Edge y x) P t u
+predecessor-reversed Edge P t u = (
+  λ p. (p .0, p .1, (p .2 .0, turned-round Edge P (p .2 .0) u t (p .2 .1))),
+  λ s. (s .0, s .1, (s .2 .0, turned-round (λ x y. Edge y x) P (s .2 .0) t u (s .2 .1))),
+)
+
+pub predecessor-from-near : (Edge : ℕ → ℕ → Type 0) (P : ℕ → Type 0) (t u : ℕ)
+    → Predecessor Edge P t u
+    ↔ ((u ≡ t → ⊥) × ((c : ℕ) × P c × Edge c t × ((u ≡ c) ⊎ Predecessor Edge P c u)))
+predecessor-from-near Edge P t u =
+    let near = successor-from-near (λ x y. Edge y x) P t u in (
+      λ p. let (other, (c, q, e, on)) = near .0 (predecessor-reversed Edge P t u .0 p) in
+          (other, (c, q, e, ⊎-elim inl (λ s. inr (predecessor-reversed Edge P c u .1 s)) on)),
+      λ p. let (other, (c, q, e, on)) = p in
+          predecessor-reversed Edge P t u .1
+          (near .1 (other, (c, q, e, ⊎-elim inl (λ s. inr (predecessor-reversed Edge P c u .0 s)) on))),
+    )
+
+-- A node without an edge to itself lies on a cycle exactly where its predecessors and successors meet.
+pub meets-on-cycle : (Edge : ℕ → ℕ → Type 0) (P : ℕ → Type 0) (t : ℕ) → (Edge t t → ⊥)
+    → Leads Edge P t t ↔ Meet (Predecessor Edge P t) (Successor Edge P t)
+meets-on-cycle Edge P t no-loop = (
+  λ w. by-second (w .0) (w .1),
+  λ m. let (u, (other, p, back), (other′, p′, forth)) = m in joined Edge P (forth .0) t u t (forth .1) p back,
+)
+  where
+    -- The second node of the cycle is in both sets.
+    by-second : (n : ℕ) → Way Edge P n t t → Meet (Predecessor Edge P t) (Successor Edge P t)
+    by-second zero w = absurd w
+    by-second (suc n) (inl e) = absurd (no-loop e)
+    by-second (suc n) (inr (c, p, e, w)) =
+        let other : c ≡ t → ⊥ = λ q. no-loop (subst (λ (x : ℕ). Edge t x) q e) in
+        (c, (other, p, (n, w)), (other, p, (1, inl e)))
 
 module _ (Edge : ℕ → ℕ → Type 0) (Through : ℕ → Type 0) (within : (c : ℕ) → Through c → c < 64) where
   -- Nodes are below 64: all but the end are 63.

@@ -1,0 +1,4 @@
+pub mod Walks
+pub mod Near
+pub mod Gathering
+pub mod Peeling
