@@ -22,7 +22,7 @@ extern "C" {
 
 /* The version of book, calls and replies, for books and programs that outlive one version: 1 is the base's, and each
  * change request raises it. A macro, so that #if can ask for it. */
-#define LENDING_DESK_VERSION 5
+#define LENDING_DESK_VERSION 6
 
 enum {
     LENDING_DESK_WORDS = 3937,          /* words of a book */
@@ -33,7 +33,7 @@ enum {
     LENDING_DESK_OPERATION_WORDS = 4,   /* words of each: object, operation, key or item, value */
     LENDING_DESK_RECORD_ARGUMENTS = 65, /* numbers that a record's call has at the most, which is a batch */
     LENDING_DESK_RECORD_BYTES = 488,    /* bytes that a record has at the most */
-    LENDING_DESK_FRAME = 12288          /* bytes of stack that a call takes at the most: measured, and not proved */
+    LENDING_DESK_FRAME = 17408          /* bytes of stack that a call takes at the most: measured, and not proved */
 };
 
 /* Kinds of objects, for set up. */

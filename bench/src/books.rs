@@ -20,7 +20,7 @@ const ROWS: usize = 32;
 /// Rows that an object has space for.
 const SPACE: usize = 64;
 
-const PUSH: u32 = 1;
+pub const PUSH: u32 = 1;
 const SET_INSERT: u32 = 4;
 pub const INSERT: u32 = 7;
 pub const LOOKUP: u32 = 9;
@@ -43,7 +43,7 @@ pub fn adding(kind: u8) -> u32 {
 }
 
 /// What the log of a book holds.
-#[derive(Clone, Copy, Debug)]
+#[derive(Clone, Copy, Debug, Default)]
 pub struct Log {
     pub entries: usize,
     /// Whether they are spread over all objects.
@@ -51,6 +51,16 @@ pub struct Log {
     pub circle: bool,
     /// Whether every handout but the one that asks has an entry that makes it wait.
     pub crowded: bool,
+    /// Pushes or modifies alone.
+    pub rewriting: Option<Rewriting>,
+}
+
+/// Pushes over the stacks, or modifies of keys that the table has.
+#[derive(Clone, Copy, Debug)]
+pub struct Rewriting {
+    pub operation: u32,
+    /// Whether all have one item, or one value.
+    pub equal: bool,
 }
 
 impl Log {
@@ -59,7 +69,9 @@ impl Log {
         desk.commit_rows();
         let handouts = if self.crowded { CROWD } else { HANDOUTS };
         (0..handouts).for_each(|handout| desk.begin(handout));
-        if self.crowded {
+        if let Some(rewriting) = self.rewriting {
+            desk.rewrite(self.entries, rewriting);
+        } else if self.crowded {
             desk.crowd(self.entries);
         } else if self.entries > 0 {
             desk.fill(self);
@@ -91,6 +103,10 @@ impl Desk {
     /// Makes an operation, and says whether it was answered.
     fn operate(&mut self, handout: u32, object: u32, operation: u32, key: u32) -> bool {
         let value = self.draws.word();
+        self.operate_with(handout, object, operation, key, value)
+    }
+
+    fn operate_with(&mut self, handout: u32, object: u32, operation: u32, key: u32, value: u32) -> bool {
         let outcome = calls::operate(&mut self.book, handout, object, operation, key, value);
         matches!(outcome, Ok(Reply::Answer { .. }))
     }
@@ -136,6 +152,20 @@ impl Desk {
         assert!(matches!(asked, Ok(Reply::Wait { count, .. }) if count == CROWD - 1));
     }
 
+    /// Has all handouts rewrite, in turn.
+    fn rewrite(&mut self, entries: usize, Rewriting { operation, equal }: Rewriting) {
+        let stacks: Vec<u32> = (0..).zip(&KINDS).filter(|(_, &kind)| kind == 1).map(|(object, _)| object).collect();
+        for turn in 0..entries {
+            let handout = turn as u32 % HANDOUTS;
+            let drawn = if equal { 7 } else { self.draws.word() };
+            let key = 2 * self.draws.below(16) as u32;
+            assert!(match operation {
+                PUSH => self.operate_with(handout, stacks[turn % stacks.len()], PUSH, drawn, 0),
+                _ => self.operate_with(handout, TABLE, MODIFY, key, drawn),
+            });
+        }
+    }
+
     fn entries(&self) -> Vec<&[u32]> {
         self.book[2145..].chunks_exact(7).take(self.book[0] as usize).collect()
     }
@@ -165,6 +195,7 @@ impl Desk {
         let newest = log[log.len() - 1];
         let mut higher = log.iter().filter(|entry| entry[1] == newest[1] && entry[0] > newest[0]);
         let inserts = log.iter().filter(|entry| entry[1] == TABLE && entry[2] == INSERT).count();
-        higher.all(|entry| rules::commutes((newest[2], newest[3]), (entry[2], entry[3]))) && ROWS + inserts < SPACE
+        let operation = |entry: &[u32]| (entry[2], entry[3], entry[4]);
+        higher.all(|entry| rules::commutes(operation(newest), operation(entry))) && ROWS + inserts < SPACE
     }
 }

@@ -1,6 +1,6 @@
 //! The rows of the table: a call, and the book that it is made on.
 
-use crate::books::{adding, Log, ASKING, INSERT, KINDS, LOOKUP, MODIFIED, MODIFY, NEW, TABLE};
+use crate::books::{adding, Log, Rewriting, ASKING, INSERT, KINDS, LOOKUP, MODIFIED, MODIFY, NEW, PUSH, TABLE};
 use crate::calls::{self, Call};
 
 /// A call on a book.
@@ -101,9 +101,21 @@ fn rows() -> Vec<Row> {
                 (_, false) => format!("{entries} on one"),
                 (_, true) => format!("{entries} over 16"),
             };
-            let log = Log { entries, spread, circle: code == 4, crowded };
+            let log = Log { entries, spread, circle: code == 4, crowded, rewriting: None };
             rows.push(Row { name: format!("{name}, {place}"), log, call: call.clone(), code });
         }
     }
+    rows.extend(rewriting_rows());
     rows
+}
+
+/// A begin where the log has pushes alone, or modifies, all different or all equal.
+fn rewriting_rows() -> impl Iterator<Item = Row> {
+    let kinds = [(PUSH, "pushes over 6", 128), (MODIFY, "modifies on one", 256)];
+    let both = kinds.into_iter().flat_map(|kind| [(kind, false), (kind, true)]);
+    both.map(|((operation, place, entries), equal)| {
+        let which = if equal { "equal" } else { "different" };
+        let log = Log { entries, rewriting: Some(Rewriting { operation, equal }), ..Log::default() };
+        Row { name: format!("begin, {entries} {which} {place}"), log, call: Call::Begin { handout: 40 }, code: 0 }
+    })
 }

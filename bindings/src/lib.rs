@@ -15,7 +15,7 @@ pub mod raw;
 
 /// The version of book, calls and replies, for books and programs that outlive one version: 1 is the base's, and each
 /// change request raises it.
-pub const VERSION: u32 = 5;
+pub const VERSION: u32 = 6;
 
 /// Words of a book.
 pub const WORDS: usize = 3937;
@@ -42,7 +42,7 @@ pub const RECORD_ARGUMENTS: usize = 65;
 pub const RECORD_BYTES: usize = 488;
 
 /// Bytes of stack that a call takes at the most: measured, and not proved. The library asks for no other memory.
-pub const FRAME: usize = 12_288;
+pub const FRAME: usize = 17_408;
 
 /// Why a call is refused, by number; `include/lending_desk.h` has the reasons.
 #[derive(Clone, Copy, Debug, PartialEq, Eq, PartialOrd, Ord, Hash)]

@@ -236,7 +236,7 @@ fn finish_says_finished_then_committed_with_the_list() {
 fn finish_says_circle_with_the_list() {
     let mut book = book(&[0, 1]);
     for (handout, object) in [(0, 0), (1, 0), (1, 1), (0, 1)] {
-        push(&mut book, handout, object, 7);
+        push(&mut book, handout, object, handout);
     }
     let mut list = [BLANK; LIST];
     assert_eq!(finish(&mut book, 0, &mut list), Ok(Ended::Finished));

@@ -42,8 +42,8 @@ fn crowding(draws: &mut Draws, kinds: &[u8]) -> Vec<Call> {
     let (first, second) = beside(kinds[object].into());
     let ring = kinds[object] > 1 && draws.percent(50);
     let operate = |transaction: u32, operation, key: usize| {
-        let (object, key) = (object as u32, key as u32);
-        Call::Operate { transaction, object, operation, key, value: transaction }
+        let key = if kinds[object] > 1 { key as u32 } else { transaction };
+        Call::Operate { transaction, object: object as u32, operation, key, value: transaction }
     };
     let mut calls: Vec<Call> = transactions.iter().map(|&transaction| Call::Begin { transaction }).collect();
     if ring {

@@ -25,6 +25,9 @@ const HIGH: [u32; 9] =
 /// Numbers at the limits of something.
 const LIMITS: [u32; 10] = [15, 16, 63, 64, 65, 255, 256, 257, UNREDUCED, u32::MAX];
 
+/// Items and values of which most are equal, and one is so but for its high bits.
+const MOSTLY_EQUAL: [u32; 6] = [5, 5, 5, 5, 6, UNREDUCED + 5];
+
 /// The script of a profile and a seed.
 pub fn draw(profile: &Profile, seed: u64) -> Script {
     let mut drawing = Drawing::new(profile, seed);
@@ -44,8 +47,8 @@ pub fn draw(profile: &Profile, seed: u64) -> Script {
     drawing.finished()
 }
 
-/// Two operations on an object of a kind: the second may run beside the first and comes to depend on it. Push and push,
-/// member and insert, modify and modify.
+/// Two operations on an object of a kind: the second may run beside the first and comes to depend on it. Push and push
+/// of another item, member and insert, modify and modify with another value.
 pub fn beside(kind: u32) -> (u32, u32) {
     match kind {
         0 | 1 => (1, 1),
@@ -264,6 +267,13 @@ impl<'a> Drawing<'a> {
 
     /// The words of an operation on an object.
     fn draw_words(&mut self, object: u32) -> [u32; OPERATION] {
+        if self.draws.percent(self.profile.equal) {
+            match self.kind(object.min(15)) {
+                1 => return [object, 1, self.draws.pick(&MOSTLY_EQUAL), 0],
+                3 => return [object, 11, self.draw_key(), self.draws.pick(&MOSTLY_EQUAL)],
+                _ => {}
+            }
+        }
         let (adding, others): (u32, &[u32]) = match self.kind(object.min(15)) {
             0 | 1 => (1, &[2, 3]),
             2 => (4, &[5, 6]),

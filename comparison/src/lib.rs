@@ -13,6 +13,7 @@ pub mod common;
 pub mod damage;
 pub mod difference;
 pub mod drawing;
+pub mod equals;
 pub mod journal;
 pub mod profiles;
 pub mod program;

@@ -16,6 +16,8 @@ pub struct Profile {
     pub last_first: usize,
     /// Of a hundred operations, how many push or insert.
     pub adding: usize,
+    /// Of a hundred operations on a stack or a table, how many push or modify, mostly as others do.
+    pub equal: usize,
     /// Of a hundred calls, how many have arguments from anywhere.
     pub wild: usize,
     /// Of a hundred lines, how many are damaged.
@@ -43,6 +45,7 @@ const USUAL: Profile = Profile {
     batched: 12,
     last_first: 60,
     adding: 50,
+    equal: 0,
     wild: 2,
     damaged: 1,
     set_ups: 0,
@@ -57,7 +60,7 @@ const USUAL: Profile = Profile {
 const FULL: Profile =
     Profile { transactions: 3, keys: 80, weights: [4, 94, 2, 0], adding: 88, lines: (80, 60), scripts: 150, ..USUAL };
 
-pub const PROFILES: [Profile; 24] = [
+pub const PROFILES: [Profile; 25] = [
     Profile {
         name: "stacks, for cycles",
         kinds: &[1, 1, 1],
@@ -74,6 +77,16 @@ pub const PROFILES: [Profile; 24] = [
         rings: 2,
         lines: (5, 25),
         scripts: 600,
+        ..USUAL
+    },
+    Profile {
+        name: "equal entries",
+        kinds: &[3, 1, 3],
+        transactions: 5,
+        keys: 2,
+        weights: [30, 45, 22, 3],
+        equal: 90,
+        scripts: 3000,
         ..USUAL
     },
     Profile { name: "one object of each kind", wild: 4, scripts: 3500, ..USUAL },

@@ -319,10 +319,18 @@ impl Stroke<'_> {
     }
 
     fn change_arguments(&mut self) -> Changes {
-        if self.draws.percent(60) {
-            self.change_entry(KEY, Self::draw_key)
-        } else {
-            self.change_entry(VALUE, |stroke, _| stroke.draws.below(4) as u32)
+        match self.draws.below(10) {
+            0..=4 => self.change_entry(KEY, Self::draw_key),
+            5..=7 => self.change_entry(VALUE, |stroke, _| stroke.draws.below(4) as u32),
+            _ => self.copy_arguments(),
+        }
+    }
+
+    /// An entry's key and value to those of another.
+    fn copy_arguments(&mut self) -> Changes {
+        match (self.draw_entry(), self.draw_entry()) {
+            (Some(to), Some(from)) => [KEY, VALUE].map(|word| (to + word, self.words[from + word])).to_vec(),
+            _ => Changes::new(),
         }
     }
 

@@ -7,6 +7,7 @@ use reference::Reply;
 
 use crate::common::graph::{Live, ACTIVE_BETWEEN, CIRCLE, FAR_CIRCLE, SETS_APART};
 use crate::difference;
+use crate::equals::{self, AFTER_ANOTHER, AFTER_MODIFY, AFTER_PUSH, NO_CIRCLE};
 use crate::replies::{self, Printed};
 use crate::script::{Line, Script};
 
@@ -14,9 +15,9 @@ const CASCADE: &str = "list with two or more others";
 const UNREAD_BATCH: &str = "batch: unread";
 
 /// Every reply that a script can reach, those to batches apart, and the finishes that tell a right test for a circle
-/// from wrong ones. It can't reach 1, 2 and 4: the program lends a whole book and a whole list, and every call leaves a
-/// sound book. Nor can it reach 12: too many numbers, or too few, are `unread`.
-pub const ROWS: [&str; 41] = [
+/// and right tables from wrong ones. It can't reach 1, 2 and 4: the program lends a whole book and a whole list, and
+/// every call leaves a sound book. Nor can it reach 12: too many numbers, or too few, are `unread`.
+pub const ROWS: [&str; 45] = [
     "ok",
     "answer, code 0",
     "answer, code 1",
@@ -34,6 +35,10 @@ pub const ROWS: [&str; 41] = [
     FAR_CIRCLE,
     ACTIVE_BETWEEN,
     SETS_APART,
+    AFTER_PUSH,
+    AFTER_MODIFY,
+    AFTER_ANOTHER,
+    NO_CIRCLE,
     "refused 3",
     "refused 5",
     "refused 6",
@@ -95,8 +100,10 @@ impl Tally {
     fn count_finish(&mut self, line: &Line, printed: &Printed, live: &mut Live) {
         if let (Some(call), Printed::Said(outcome, list)) = (&line.call, printed) {
             if let (&Call::Finish { transaction }, Ok(reply)) = (call, outcome) {
-                let circle = matches!(reply, Reply::Circle { .. });
-                live.finishes(transaction, circle).for_each(|row| self.add(row, 1));
+                let [commits, circle] =
+                    [matches!(reply, Reply::Committed { .. }), matches!(reply, Reply::Circle { .. })];
+                let equals = equals::finishes(live, transaction, commits, circle);
+                live.finishes(transaction, circle).chain(equals).for_each(|row| self.add(row, 1));
             }
             live.record(call, *outcome, list);
         }

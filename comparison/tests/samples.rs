@@ -3,7 +3,7 @@
 
 use std::fs;
 
-use comparison::common::{columns, TABLE_1, WHOLE_CASE};
+use comparison::common::{columns, EQUAL_ITEMS, TABLE_1, TWO_STACKS, WHOLE_CASE};
 use comparison::difference;
 use comparison::program::{saved, Program};
 
@@ -37,17 +37,11 @@ fn full_stack() -> Sample {
 }
 
 fn circle() -> Sample {
-    columns(
-        "S 1 1           ok
-         B 0             ok
-         B 1             ok
-         I 0 0 1 1 0     answer 1 0
-         I 1 0 1 2 0     answer 1 0
-         I 1 1 1 3 0     answer 1 0
-         I 0 1 1 4 0     answer 1 0
-         F 0             finished
-         F 1             circle 0",
-    )
+    columns(TWO_STACKS)
+}
+
+fn equal_items() -> Sample {
+    columns(EQUAL_ITEMS)
 }
 
 /// A leader draws from two racks and marks it in the list, all in one go; another's waits for both handouts that
@@ -103,7 +97,7 @@ fn full_stack_by_batches() -> Sample {
 
 /// Samples in one script; each begins with a set up of its own.
 fn all() -> Sample {
-    [whole_case(), last_handout(), full_log(), full_stack(), circle(), batches()].into_iter().unzip()
+    [whole_case(), last_handout(), full_log(), full_stack(), circle(), equal_items(), batches()].into_iter().unzip()
 }
 
 fn assert_printed((input, expected): Sample) {
@@ -139,6 +133,11 @@ fn push_64_is_taken_and_the_next_refused() {
 #[test]
 fn circle_over_two_stacks_ends_the_one_that_closes_it() {
     assert_printed(circle());
+}
+
+#[test]
+fn equal_items_on_two_stacks_commit_in_the_order_of_finishing() {
+    assert_printed(equal_items());
 }
 
 /// What each finish finds is in the second implementation's samples.

@@ -10,7 +10,8 @@ use comparison::batches::{together, OPERATION};
 use comparison::call_lists::call_list;
 use comparison::common::draws::Draws;
 use comparison::common::graph::{Live, ACTIVE_BETWEEN, CIRCLE, FAR_CIRCLE, SETS_APART};
-use comparison::common::{kind_word, sixteen, status_word, BATCH_LIMIT, LIST_LENGTH, LOG_LIMIT, WORDS};
+use comparison::common::{entry_word, kind_word, sixteen, status_word, BATCH_LIMIT, LIST_LENGTH, LOG_LIMIT, WORDS};
+use comparison::equals::{self, AFTER_ANOTHER, AFTER_MODIFY, AFTER_PUSH, NO_CIRCLE};
 use comparison::profiles::{Profile, PROFILES};
 use comparison::stores;
 use comparison::tally::Tally;
@@ -36,7 +37,7 @@ const ANYTHING: [u32; 10] = [0, 15, 16, 17, 63, 64, 65, 255, 1 << 31, u32::MAX];
 /// What the columns of the table of replies count.
 const CALLS: [&str; 7] = ["set up", "begin", "operate", "batch", "finish", "cancel", "contents"];
 /// Every reply, some of them told apart further, and which calls say it, by their places in `CALLS`.
-const REPLIES: [(&str, &[usize]); 38] = [
+const REPLIES: [(&str, &[usize]); 42] = [
     ("ok", &[0, 1]),
     ("wait for one", &[2, 3]),
     ("wait for more than one", &[2, 3]),
@@ -55,6 +56,10 @@ const REPLIES: [(&str, &[usize]); 38] = [
     (FAR_CIRCLE, &[4]),
     (ACTIVE_BETWEEN, &[4]),
     (SETS_APART, &[4]),
+    (AFTER_PUSH, &[4]),
+    (AFTER_MODIFY, &[4]),
+    (AFTER_ANOTHER, &[4]),
+    (NO_CIRCLE, &[4]),
     ("cancelled alone", &[5]),
     ("cancelled with others", &[5]),
     ("no rows", &[6]),
@@ -177,7 +182,7 @@ fn rows(call: &AnyCall, store: &[u32], numbers: &Numbers) -> Vec<String> {
     let (transaction, operations) = match call {
         AnyCall::Lettered(Call::Batch { transaction, operations }) => (*transaction, operations),
         AnyCall::Lettered(Call::Finish { transaction }) if numbers.refusal() == 0 => {
-            let finishes = Live::of(store).finishes(*transaction, is_circle(numbers));
+            let finishes = finishes(&Live::of(store), *transaction, numbers);
             return iter::once(row).chain(finishes.map(String::from)).collect();
         }
         _ => return vec![row],
@@ -192,8 +197,14 @@ fn rows(call: &AnyCall, store: &[u32], numbers: &Numbers) -> Vec<String> {
     }
 }
 
-fn is_circle(numbers: &Numbers) -> bool {
-    matches!(numbers, Numbers::Ended(raw::Ended { code: 4, .. }))
+/// What a finish with this reply is worth counting as.
+fn finishes(live: &Live, transaction: u32, numbers: &Numbers) -> impl Iterator<Item = &'static str> {
+    let [commits, circle] = [COMMITTED, IS_CIRCLE].map(|code| is_ended(numbers, code));
+    live.finishes(transaction, circle).chain(equals::finishes(live, transaction, commits, circle))
+}
+
+fn is_ended(numbers: &Numbers, with: u32) -> bool {
+    matches!(*numbers, Numbers::Ended(raw::Ended { code, .. }) if code == with)
 }
 
 fn hash(store: &[u32]) -> u64 {
@@ -641,40 +652,67 @@ const WRONG_WITH_BATCHES: [(&str, Desk); 13] = [
     }),
 ];
 
-/// The second implementation, but that finishes of one kind are no circle where they are one, and else are one.
-fn mistaking(kind: &str, call: &AnyCall, store: &mut [u32], list: &mut [u8]) -> Served {
+const FINISHED: u32 = 2;
+const COMMITTED: u32 = 3;
+const IS_CIRCLE: u32 = 4;
+
+/// The second implementation, but that finishes of one kind have this reply code instead.
+fn mistaking(kind: &str, code: u32, call: &AnyCall, store: &mut [u32], list: &mut [u8]) -> Served {
     let (before, bytes) = (store.to_vec(), list.to_vec());
     let served = second(call, store, list);
     let transaction = match *call {
         AnyCall::Lettered(Call::Finish { transaction }) if served.numbers.refusal() == 0 => transaction,
         _ => return served,
     };
-    let (live, circle) = (Live::of(&before), is_circle(&served.numbers));
-    if live.finishes(transaction, circle).all(|finish| finish != kind) {
+    let live = Live::of(&before);
+    if finishes(&live, transaction, &served.numbers).all(|finish| finish != kind) {
         return served;
     }
     store.copy_from_slice(&before);
     list.copy_from_slice(&bytes);
-    if circle {
-        store[status_word(transaction as usize)] = 2 + live.pseudo_committed.len() as u32;
-        return ended_with(raw::Ended { code: 2, ..raw::Ended::default() });
+    match code {
+        FINISHED => {
+            store[status_word(transaction as usize)] = 2 + live.pseudo_committed.len() as u32;
+            return ended_with(raw::Ended { code, ..raw::Ended::default() });
+        }
+        COMMITTED => {
+            put_first(store, transaction);
+            return second(call, store, list);
+        }
+        _ => {}
     }
     match second(&AnyCall::Lettered(Call::Cancel { transaction }), store, list).numbers {
-        Numbers::Ended(cancelled) => ended_with(raw::Ended { code: 4, ..cancelled }),
+        Numbers::Ended(cancelled) => ended_with(raw::Ended { code, ..cancelled }),
         other => panic!("{other:?} to a cancel"),
     }
+}
+
+/// Puts a transaction's entries before all others, so that it depends on nobody.
+fn put_first(store: &mut [u32], transaction: u32) {
+    let log = entry_word(0)..entry_word(store[0] as usize);
+    let mut entries: Vec<Vec<u32>> = store[log.clone()].chunks(entry_word(1) - entry_word(0)).map(Vec::from).collect();
+    entries.sort_by_key(|entry| entry[0] != transaction);
+    store[log].copy_from_slice(&entries.concat());
 }
 
 fn ended_with(ended: raw::Ended) -> Served {
     Served { numbers: Numbers::Ended(ended), rows: Vec::new() }
 }
 
-/// The second implementation, but for what it takes for a circle.
-const WRONG_AT_CIRCLES: [(&str, Desk); 4] = [
-    ("calls no circle", |call, store, list| mistaking(CIRCLE, call, store, list)),
-    ("looks for a circle at near ones alone", |call, store, list| mistaking(FAR_CIRCLE, call, store, list)),
-    ("calls a circle through an open one", |call, store, list| mistaking(ACTIVE_BETWEEN, call, store, list)),
-    ("calls a circle where two sets don't meet", |call, store, list| mistaking(SETS_APART, call, store, list)),
+/// The second implementation, but for what it takes for a circle, or whom for one to depend on.
+const WRONG_AT_FINISH: [(&str, Desk); 8] = [
+    ("calls no circle", |call, store, list| mistaking(CIRCLE, FINISHED, call, store, list)),
+    ("looks for a circle at near ones alone", |call, store, list| mistaking(FAR_CIRCLE, FINISHED, call, store, list)),
+    ("calls a circle through an open one", |call, store, list| mistaking(ACTIVE_BETWEEN, IS_CIRCLE, call, store, list)),
+    ("calls a circle where two sets don't meet", |call, store, list| {
+        mistaking(SETS_APART, IS_CIRCLE, call, store, list)
+    }),
+    ("has equal pushes in order", |call, store, list| mistaking(AFTER_PUSH, FINISHED, call, store, list)),
+    ("has equal modifies in order", |call, store, list| mistaking(AFTER_MODIFY, FINISHED, call, store, list)),
+    ("calls a circle of equal ones", |call, store, list| mistaking(NO_CIRCLE, IS_CIRCLE, call, store, list)),
+    ("takes an owner of equal ones for one of no others", |call, store, list| {
+        mistaking(AFTER_ANOTHER, COMMITTED, call, store, list)
+    }),
 ];
 
 /// The second implementation, but for one thing.
@@ -766,12 +804,13 @@ const WRONG_DESKS: [(&str, Desk); 14] = [
 
 #[test]
 fn wrong_desks_are_noticed() {
-    let walk = |desk, profile| Walk::run([desk, second], &mut Pass::default(), profile, 0);
+    let walk = |desk, profile, seed| Walk::run([desk, second], &mut Pass::default(), profile, seed);
     for profile in &PROFILES {
-        assert_eq!(walk(second, profile), Ok(()));
+        assert_eq!(walk(second, profile, 0), Ok(()));
     }
-    for (what, desk) in WRONG_DESKS.into_iter().chain(WRONG_WITH_BATCHES).chain(WRONG_AT_CIRCLES) {
-        let noticed = PROFILES.iter().find_map(|profile| walk(desk, profile).err());
+    for (what, desk) in WRONG_DESKS.into_iter().chain(WRONG_WITH_BATCHES).chain(WRONG_AT_FINISH) {
+        let mut walks = (0..FEWEST_WALKS).flat_map(|seed| PROFILES.iter().map(move |profile| (profile, seed)));
+        let noticed = walks.find_map(|(profile, seed)| walk(desk, profile, seed).err());
         let noticed = noticed.unwrap_or_else(|| panic!("not noticed: one that {what}"));
         assert!(!noticed.contains("panics"), "one that {what}: {noticed}");
     }

@@ -1,6 +1,6 @@
 //! The checks notice what wrong desks would print, by comparison and, where demand 3 is broken, by the history alone.
 
-use comparison::common::{call_of, printed, transcript_lines};
+use comparison::common::{call_of, printed, transcript_lines, EQUAL_ITEMS};
 use comparison::difference;
 use comparison::drawing::draw;
 use comparison::profiles::PROFILES;
@@ -401,6 +401,83 @@ fn desk_that_commits_by_number_is_noticed_by_comparison() {
          F 0             committed 0 1 2",
     );
     assert_eq!(case.difference(), Some(10));
+    assert_eq!(case.broken(), None);
+}
+
+// What a desk would print that takes other entries for commuting.
+
+/// Two push on a stack, or modify one key of a table; 1 finishes before 0, with the reply given, and 2 reads.
+fn finished_before(of_0: &[&str], of_1: &str, reply: &str, read: &[&str]) -> Case {
+    let of_0: String = of_0.iter().map(|operation| format!("I 0 {operation}  answer 1 0\n")).collect();
+    let read: String = read.iter().map(|read| format!("I 2 {read}\n")).collect();
+    Case::of(&format!(
+        "S 1 3           ok
+         B 2             ok
+         I 2 1 7 5 50    answer 1 0
+         F 2             committed 2
+         B 0             ok
+         B 1             ok
+         {of_0}
+         I 1 {of_1}      answer 1 0
+         F 1             {reply}
+         F 0             committed 0{}
+         B 2             ok
+         {read}",
+        if reply == "finished" { " 1" } else { "" }
+    ))
+}
+
+/// What 0 does, what 1 does then, and what is read afterwards if 0 commits first, as it must.
+const IN_ORDER: [(&str, &[&str], &str, &[&str]); 5] = [
+    ("any pushes commute", &["0 1 7 0"], "0 1 8 0", &["0 2 0 0  answer 1 8"]),
+    ("any modifies of a key commute", &["1 11 5 51"], "1 11 5 52", &["1 9 5 0  answer 1 52"]),
+    ("an owner of an equal push has no other", &["0 1 7 0", "0 1 8 0"], "0 1 7 0", &["0 2 0 0  answer 1 7"]),
+    ("an owner of an equal modify has no other", &["1 11 5 51", "1 11 5 52"], "1 11 5 51", &["1 9 5 0  answer 1 51"]),
+    (
+        "an owner's newest entry alone counts",
+        &["0 1 8 0", "0 1 7 0"],
+        "0 1 7 0",
+        &["0 2 0 0  answer 1 7", "0 2 0 0  answer 1 7", "0 2 0 0  answer 1 8"],
+    ),
+];
+
+/// Each commits 1 first and takes the rows to be the same either way.
+#[test]
+fn desks_for_which_more_commutes_are_noticed() {
+    for (what, of_0, of_1, read) in IN_ORDER {
+        finished_before(of_0, of_1, "finished", read).assert_right();
+        finished_before(of_0, of_1, "committed 1", read).assert_noticed_by_both(what);
+    }
+}
+
+/// Demand 3 lets it through as long as nobody reads, or the rows follow the order of commitment.
+#[test]
+fn desks_for_which_more_commutes_are_noticed_before_anybody_reads_by_comparison() {
+    for (what, of_0, of_1, _) in IN_ORDER {
+        let case = finished_before(of_0, of_1, "committed 1", &[]);
+        assert_eq!(case.difference(), Some(7 + of_0.len()), "{what}");
+        assert_eq!(case.broken(), None, "{what}");
+    }
+}
+
+/// Demand 3 lets it through: who waits for nothing alters nobody's answer.
+#[test]
+fn desk_for_which_equal_entries_have_an_order_is_noticed_by_comparison() {
+    for operation in ["0 1 7 0", "1 11 5 51"] {
+        finished_before(&[operation], operation, "committed 1", &[]).assert_right();
+        let case = finished_before(&[operation], operation, "finished", &[]);
+        assert_eq!(case.difference(), Some(8));
+        assert_eq!(case.broken(), None);
+    }
+}
+
+/// The same where it calls a circle.
+#[test]
+fn desk_that_calls_a_circle_of_equal_items_is_noticed_by_comparison() {
+    let right = Case::of(EQUAL_ITEMS);
+    right.assert_right();
+    let case = right.with(7, "committed 1", "finished").with(8, "committed 0", "circle 1");
+    assert_eq!(case.difference(), Some(7));
     assert_eq!(case.broken(), None);
 }
 

@@ -1,6 +1,6 @@
 //! The pair rules: which operations may run side by side, and which may commit in any order.
 
-use crate::operations::Operation;
+use crate::operations::{Operation, Request};
 
 /// When a pair of operations is recoverable, or commutes.
 #[derive(Clone, Copy, Debug, PartialEq, Eq)]
@@ -8,10 +8,14 @@ pub(crate) enum Rule {
     Always,
     /// Where the reduced keys differ.
     Apart,
+    /// Where the reduced keys differ, or the values are equal.
+    ApartOrEqual,
+    /// Where the items are equal.
+    Equal,
     Never,
 }
 
-use Rule::{Always, Apart, Never};
+use Rule::{Always, Apart, ApartOrEqual, Equal, Never};
 
 /// A table for each kind, one after the other: a row for each requested operation, in it a rule for each logged one of
 /// the kind.
@@ -50,7 +54,7 @@ pub(crate) const RECOVERABLE: PairRules = PairRules([
 #[rustfmt::skip]
 pub(crate) const COMMUTING: PairRules = PairRules([
     //     push    pop     top
-    three([Never,  Never,  Never]),  // push
+    three([Equal,  Never,  Never]),  // push
     three([Never,  Never,  Never]),  // pop
     three([Never,  Never,  Always]), // top
 
@@ -64,7 +68,7 @@ pub(crate) const COMMUTING: PairRules = PairRules([
     [Apart,  Apart,  Apart,  Never,  Apart],  // delete
     [Apart,  Apart,  Always, Always, Apart],  // lookup
     [Never,  Never,  Always, Always, Always], // size
-    [Apart,  Apart,  Apart,  Always, Apart],  // modify
+    [Apart,  Apart,  Apart,  Always, ApartOrEqual], // modify
 ]);
 
 impl PairRules {
@@ -73,19 +77,23 @@ impl PairRules {
         &self.0[requested.number() as usize - 1]
     }
 
-    /// Whether the pair, operations of one kind with reduced keys, is one the rules say yes to.
-    pub fn allow(&self, requested: (Operation, u32), logged: (Operation, u32)) -> bool {
-        match self.row(requested.0)[logged.0.index()] {
+    /// Whether the pair, requests of one kind, is one the rules say yes to.
+    fn allow(&self, requested: Request, logged: Request) -> bool {
+        match self.row(requested.operation)[logged.operation.index()] {
             Always => true,
-            Apart => requested.1 != logged.1,
+            Apart => requested.key != logged.key,
+            ApartOrEqual => requested.key != logged.key || requested.value == logged.value,
+            Equal => requested.key == logged.key,
             Never => false,
         }
     }
 
-    /// As `allow`, by operation numbers: no unless they are operations of one kind.
-    fn allow_numbered(&self, requested: (u32, u32), logged: (u32, u32)) -> bool {
-        match (Operation::from_number(requested.0), Operation::from_number(logged.0)) {
-            (Some(one), Some(other)) if one.kind() == other.kind() => self.allow((one, requested.1), (other, logged.1)),
+    /// As `allow`, by operation number, reduced key or item, and value: no unless they are operations of one kind.
+    fn allow_numbered(&self, requested: (u32, u32, u32), logged: (u32, u32, u32)) -> bool {
+        let request =
+            |(number, key, value)| Operation::from_number(number).map(|operation| Request { operation, key, value });
+        match (request(requested), request(logged)) {
+            (Some(one), Some(other)) if one.operation.kind() == other.operation.kind() => self.allow(one, other),
             _ => false,
         }
     }
@@ -93,10 +101,10 @@ impl PairRules {
 
 /// Whether `requested` (operation number and reduced key) is recoverable against `logged`, both of one kind.
 pub fn recoverable(requested: (u32, u32), logged: (u32, u32)) -> bool {
-    RECOVERABLE.allow_numbered(requested, logged)
+    RECOVERABLE.allow_numbered((requested.0, requested.1, 0), (logged.0, logged.1, 0))
 }
 
-/// Whether the two operations, both of one kind, commute.
-pub fn commutes(one: (u32, u32), other: (u32, u32)) -> bool {
+/// Whether the two operations (number, reduced key or item, value), both of one kind, commute.
+pub fn commutes(one: (u32, u32, u32), other: (u32, u32, u32)) -> bool {
     COMMUTING.allow_numbered(one, other)
 }

@@ -46,22 +46,31 @@ impl Analysis {
         let footprints = footprints.insert(Footprints::new(log.len() / ENTRY_WORDS));
         log::read(log).try_for_each(|entry| {
             let entry = entry?;
-            let same_key = footprints.at(entry.object, entry.request.key);
-            self.admit(entry, same_key, replays.of(store, entry.object))
+            let replay = replays.of(store, entry.object);
+            let (same_key, unequal) = footprints.enter(&entry, &mut replay.owners);
+            self.admit(entry, same_key, unequal, replay)
         })
     }
 
-    /// Replays one entry after those before it; none where it breaks soundness.
-    fn admit(&mut self, entry: Entry, same_key: &mut Owners, replay: &mut Replay) -> Option<()> {
+    /// Replays one entry after those before it, given the owners for its key and those of entries that don't commute
+    /// with it since they are not equal; none where it breaks soundness.
+    fn admit(
+        &mut self,
+        entry: Entry,
+        same_key: &mut Owners,
+        unequal: TransactionSet,
+        replay: &mut Replay,
+    ) -> Option<()> {
         let Entry { transaction, request, answer, .. } = entry;
         let operation = request.operation;
         let live = self.statuses.live() & only(transaction) != 0;
         if !live || replay.kind() != Some(operation.kind()) || !replay.has_room_for(operation) {
             return None;
         }
-        let others = |rules| Owners::disallowed(rules, same_key, &replay.owners) & !only(transaction);
-        let recoverable = others(RECOVERABLE.row(operation)) == 0;
-        self.dependencies.add(transaction, others(COMMUTING.row(operation)));
+        let disallowed = |rules| Owners::disallowed(rules, same_key, &replay.owners);
+        let others = !only(transaction);
+        let recoverable = disallowed(RECOVERABLE.row(operation)) & others == 0;
+        self.dependencies.add(transaction, (disallowed(COMMUTING.row(operation)) | unequal) & others);
         same_key.add(operation, transaction);
         replay.owners.add(operation, transaction);
         (recoverable && replay.run(request) == answer).then_some(())

@@ -655,7 +655,7 @@ fn wait_is_for_all_63_others_at_once() {
 fn wait_is_for_63_pseudo_committed_ones_at_once() {
     let mut scheduler = scheduler();
     for transaction in 0..64 {
-        scheduler.follow(&format!("B {transaction}  ok\n I {transaction} 0 1 7 0  answer 1 0"));
+        scheduler.follow(&format!("B {transaction}  ok\n I {transaction} 0 1 {transaction} 0  answer 1 0"));
     }
     for transaction in 1..64 {
         scheduler.follow(&format!("F {transaction}  finished"));
@@ -691,6 +691,106 @@ fn modifies_of_one_key_commit_in_the_order_entered() {
          F 0            committed 0 1",
     );
     scheduler.assert_store(&empty().rows(TABLE, &[[5, 52]]));
+}
+
+/// Two desks put back spares of one class, and the second doesn't wait to commit.
+#[test]
+fn equal_pushes_commit_in_any_order() {
+    let mut scheduler = scheduler();
+    scheduler.follow(
+        "B 0          ok
+         B 1          ok
+         I 0 0 1 7 0  answer 1 0
+         I 1 0 1 7 0  answer 1 0
+         F 1          committed 1",
+    );
+    scheduler.assert_store(&empty().rows(STACK, &[[7, 0]]).active(&[0]).log(&[[0, 0, 1, 7, 0, 1, 0]]));
+    scheduler.follow("F 0  committed 0");
+    scheduler.assert_store(&empty().rows(STACK, &[[7, 0], [7, 0]]));
+}
+
+/// The maker's mark counts for nothing.
+#[test]
+fn equal_modifies_commit_in_any_order() {
+    let mut scheduler = Scheduler::on(empty().rows(TABLE, &[[12, 2]]));
+    scheduler.follow(
+        "B 0                  ok
+         B 1                  ok
+         I 0 2 11 12 3        answer 1 0
+         I 1 2 11 16777228 3  answer 1 0
+         F 1                  committed 1",
+    );
+    scheduler.assert_store(&empty().rows(TABLE, &[[12, 3]]).active(&[0]).log(&[[0, 2, 11, 12, 3, 1, 0]]));
+    scheduler.follow("C 0  cancelled");
+    scheduler.assert_store(&empty().rows(TABLE, &[[12, 3]]));
+}
+
+#[test]
+fn items_and_values_are_compared_whole() {
+    let (item, value) = (UNREDUCED + 7, UNREDUCED + 3);
+    for [one, other] in [["0 1 7 0", &format!("0 1 {item} 0")], ["2 11 5 3", &format!("2 11 5 {value}")]] {
+        let mut scheduler = begun();
+        scheduler.follow("B 1  ok");
+        scheduler.say(&format!("I 0 {one}"));
+        scheduler.say(&format!("I 1 {other}"));
+        scheduler.follow("F 1  finished");
+    }
+}
+
+/// Asserts that 1, which makes some operations after others of 0, pseudo-commits, as it depends on one of those.
+fn assert_finished(of_0: &[&str], of_1: &[&str]) {
+    let mut scheduler = begun();
+    scheduler.follow("B 1  ok");
+    for (transaction, operations) in [(0, of_0), (1, of_1)] {
+        for operation in operations {
+            assert!(scheduler.say(&format!("I {transaction} {operation}")).starts_with("answer "), "{operation}");
+        }
+    }
+    assert_eq!(scheduler.say("F 1"), "finished", "{of_1:?} after {of_0:?}");
+    scheduler.follow("F 0  committed 0 1");
+}
+
+#[test]
+fn equal_entry_does_not_hide_another_of_the_same_owner() {
+    for [equal, other] in [["0 1 7 0", "0 1 8 0"], ["2 11 5 3", "2 11 5 4"]] {
+        assert_finished(&[equal, other], &[equal]);
+        assert_finished(&[other, equal], &[equal]);
+        assert_finished(&[equal, other, equal], &[equal]);
+        assert_finished(&[equal], &[equal, other]);
+        assert_finished(&[equal], &[other, equal]);
+        assert_finished(&[equal, other], &[equal, other]);
+    }
+    assert_finished(&["0 1 7 0", "0 2 0 0"], &["0 1 7 0"]);
+    assert_finished(&["2 9 5 0", "2 11 5 3"], &["2 11 5 3"]);
+}
+
+/// 1 has both items, 0 and 2 one each: only who pushes another after it depends on 1.
+#[test]
+fn owner_of_two_items_is_depended_on_by_those_who_follow() {
+    scheduler().follow(
+        "B 0          ok
+         B 1          ok
+         B 2          ok
+         I 0 0 1 7 0  answer 1 0
+         I 1 0 1 7 0  answer 1 0
+         I 2 0 1 7 0  answer 1 0
+         I 1 0 1 8 0  answer 1 0
+         F 2          committed 2
+         F 1          finished
+         F 0          committed 0 1",
+    );
+}
+
+#[test]
+fn equal_modifies_of_another_key_do_not_count() {
+    begun().follow(
+        "B 1           ok
+         I 0 2 11 5 3  answer 0 0
+         I 0 2 11 6 4  answer 0 0
+         I 1 2 11 6 3  answer 0 0
+         F 1           finished
+         C 0           cancelled 1",
+    );
 }
 
 #[test]

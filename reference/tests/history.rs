@@ -4,7 +4,8 @@ mod common;
 
 use std::collections::BTreeSet;
 
-use common::{call_of, WHOLE_CASE};
+use common::{call_of, Scheduler, Store, WHOLE_CASE};
+use reference::calls::contents;
 use reference::history::{Altered, History, Objects};
 use reference::{Answer, Answers, Outcome, Refusal, Reply};
 
@@ -47,6 +48,16 @@ fn history_of(transcript: &str) -> History {
         let (outcome, list) = outcome_of(line, reply);
         history.record(&call_of(line), outcome, &list);
     }
+    history
+}
+
+/// The history of a transcript that the calls reply to so; contents must be what it serves.
+fn history_kept(transcript: &str) -> History {
+    let mut scheduler = Scheduler::on(Store::zeros());
+    scheduler.follow(transcript);
+    let history = history_of(transcript);
+    let served = history.serve_committed().expect("nothing altered among the committed");
+    (0..16).for_each(|object| assert_eq!(contents(&scheduler.store, object), served.rows(object), "object {object}"));
     history
 }
 
@@ -158,6 +169,35 @@ fn order_of_commitment_counts_and_not_that_of_answers() {
     };
     assert_eq!(served("0 1"), [7, 0, 9, 0, 8, 0]);
     assert_eq!(served("1 0"), [8, 0, 7, 0, 9, 0]);
+}
+
+/// 2 commits before those whose equal entries come earlier, 1 must follow 0 for the item 8, and 0 follows nobody.
+#[test]
+fn equal_entries_commit_in_the_order_of_finishing() {
+    let before = "S 1 3           ok
+         B 3             ok
+         I 3 1 7 12 1    answer 1 0
+         F 3             committed 3
+         B 0             ok
+         B 1             ok
+         B 2             ok
+         I 0 0 1 7 0     answer 1 0
+         I 0 1 11 12 3   answer 1 0
+         I 1 0 1 7 0     answer 1 0
+         I 2 0 1 7 0     answer 1 0
+         I 1 0 1 8 0     answer 1 0
+         I 2 1 11 12 3   answer 1 0
+         I 2 1 10 0 0    answer 1 1
+         F 2             committed 2
+         F 1             finished";
+    let history = history_kept(before);
+    for dropped in [&[][..], &[0], &[1], &[0, 1]] {
+        assert_eq!(dropping(&history, dropped), Ok(()), "{dropped:?}");
+    }
+    let served = |end: &str| history_kept(&format!("{before}\n{end}")).serve_committed().unwrap();
+    let committed = served("F 0  committed 0 1");
+    assert_eq!((committed.rows(0), committed.rows(1)), (vec![7, 0, 7, 0, 7, 0, 8, 0], vec![12, 3]));
+    assert_eq!(served("C 0  cancelled 1").rows(0), [7, 0, 7, 0, 8, 0]);
 }
 
 #[test]

@@ -3,7 +3,7 @@
 mod common;
 
 use common::graph::{Live, Transactions};
-use common::{assert_printed, printed, transcript_lines, Scheduler, TABLE_1, WHOLE_CASE};
+use common::{assert_printed, printed, transcript_lines, Scheduler, EQUAL_ITEMS, TABLE_1, TWO_STACKS, WHOLE_CASE};
 use reference::rules::{commutes, recoverable};
 
 const PUSH: u32 = 1;
@@ -101,7 +101,7 @@ fn p9_lookup_against_modify() {
 #[test]
 fn p10_push_against_push() {
     assert!(recoverable((PUSH, 7), (PUSH, 9)));
-    assert!(!commutes((PUSH, 7), (PUSH, 9)));
+    assert!(!commutes((PUSH, 7, 0), (PUSH, 9, 0)));
     assert_printed(
         "S 1             ok
          B 0             ok
@@ -109,6 +109,20 @@ fn p10_push_against_push() {
          I 0 0 1 7 0     answer 1 0
          I 1 0 1 9 0     answer 1 0
          F 1             finished",
+    );
+}
+
+#[test]
+fn p10_push_against_push_of_an_equal_item() {
+    assert!(recoverable((PUSH, 7), (PUSH, 7)));
+    assert!(commutes((PUSH, 7, 0), (PUSH, 7, 0)));
+    assert_printed(
+        "S 1             ok
+         B 0             ok
+         B 1             ok
+         I 0 0 1 7 0     answer 1 0
+         I 1 0 1 7 0     answer 1 0
+         F 1             committed 1",
     );
 }
 
@@ -140,17 +154,12 @@ fn stack_takes_64_pushes() {
 
 #[test]
 fn circle_over_two_stacks() {
-    assert_printed(
-        "S 1 1           ok
-         B 0             ok
-         B 1             ok
-         I 0 0 1 1 0     answer 1 0
-         I 1 0 1 2 0     answer 1 0
-         I 1 1 1 3 0     answer 1 0
-         I 0 1 1 4 0     answer 1 0
-         F 0             finished
-         F 1             circle 0",
-    );
+    assert_printed(TWO_STACKS);
+}
+
+#[test]
+fn equal_items_on_two_stacks() {
+    assert_printed(EQUAL_ITEMS);
 }
 
 #[test]

@@ -445,10 +445,10 @@ fn pushes_and_inserts_of_all_transactions_count() {
 
 // Ranks, cycles, dependencies.
 
-/// Transactions that push on stacks: each pair's first comes to depend on its second.
+/// Transactions that push their numbers on stacks: each pair's first comes to depend on its second.
 fn with_dependencies(dependencies: &[(u32, u32)]) -> Store {
     (0..).zip(dependencies).fold(Store::of(&[1; 16]), |store, (stack, &(dependent, on))| {
-        store.log(&[[on, stack, 1, 7, 0, 1, 0], [dependent, stack, 1, 7, 0, 1, 0]])
+        store.log(&[[on, stack, 1, on, 0, 1, 0], [dependent, stack, 1, dependent, 0, 1, 0]])
     })
 }
 
@@ -513,6 +513,66 @@ fn pseudo_committed_one_whose_entries_commute_with_all_earlier_ones() {
     assert_unsound(store.pseudo_committed(&[0]));
 }
 
+/// A push of an item on stack 0, and a modify of a key of table 1 that isn't there.
+fn push(transaction: u32, item: u32) -> Entry {
+    [transaction, 0, 1, item, 0, 1, 0]
+}
+fn modify(transaction: u32, key: u32, value: u32) -> Entry {
+    [transaction, 1, 11, key, value, 0, 0]
+}
+
+/// Whether the store with these entries of 0, pseudo-committed, and 1, active, is sound.
+#[track_caller]
+fn assert_depends(entries: &[Entry], depends: bool) {
+    let store = Store::of(&[1, 3]).active(&[1]).log(entries);
+    assert!(sound(&store.clone().active(&[0]).words), "both active");
+    assert_eq!(sound(&store.pseudo_committed(&[0]).words), depends, "{entries:?}");
+}
+
+#[test]
+fn pseudo_committed_one_with_pushes_equal_to_all_earlier_ones() {
+    assert_depends(&[push(1, 7), push(0, 7)], false);
+    assert_depends(&[push(1, 7), push(1, 7), push(0, 7), push(0, 7), push(1, 8)], false);
+    assert_depends(&[push(1, 7), push(0, 8)], true);
+    assert_depends(&[push(1, 7), push(0, UNREDUCED + 7)], true);
+    assert_depends(&[[1, 0, 3, 0, 0, 0, 0], push(0, 0)], true);
+}
+
+#[test]
+fn pseudo_committed_one_with_modifies_equal_to_all_earlier_ones() {
+    assert_depends(&[modify(1, 5, 3), modify(0, 5, 3)], false);
+    assert_depends(&[modify(1, 5, 3), modify(1, 6, 4), modify(0, 5, 3), modify(0, 6, 4), modify(1, 5, 4)], false);
+    assert_depends(&[modify(1, 5, 3), modify(0, 5, 4)], true);
+    assert_depends(&[modify(1, 5, 3), modify(0, 5, UNREDUCED + 3)], true);
+    assert_depends(&[modify(1, 5, 3), modify(1, 6, 4), modify(0, 5, 4), modify(0, 6, 4)], true);
+}
+
+#[test]
+fn pseudo_committed_one_after_an_equal_entry_and_another_of_the_same_owner() {
+    for others in [[7, 8], [8, 7]] {
+        assert_depends(&[push(1, others[0]), push(1, others[1]), push(0, 7)], true);
+        assert_depends(&[push(1, 7), push(0, others[0]), push(0, others[1])], true);
+        assert_depends(&[modify(1, 5, others[0]), modify(1, 5, others[1]), modify(0, 5, 7)], true);
+        assert_depends(&[modify(1, 5, 7), modify(0, 5, others[0]), modify(0, 5, others[1])], true);
+    }
+}
+
+/// On two stacks; each depends on 2 as well.
+#[test]
+fn pseudo_committed_ones_on_no_cycle_since_pushes_are_equal() {
+    let on_stacks = |items: [u32; 4]| {
+        let [first, second, third, fourth] = items;
+        let pushes = [[0, 0, first], [1, 0, second], [1, 1, third], [0, 1, fourth]];
+        let entries = pushes.map(|[transaction, stack, item]| [transaction, stack, 1, item, 0, 1, 0]);
+        let store = Store::of(&[1, 1, 1]).active(&[2]).pseudo_committed(&[0, 1]).log(&entries);
+        store.log(&[[2, 2, 1, 5, 0, 1, 0], [0, 2, 1, 6, 0, 1, 0], [1, 2, 1, 6, 0, 1, 0]])
+    };
+    assert_all_unsound([on_stacks([1, 2, 3, 4])]);
+    for items in [[1, 1, 3, 4], [1, 2, 3, 3], [1, 1, 3, 3]] {
+        assert!(sound(&on_stacks(items).words), "{items:?}");
+    }
+}
+
 #[test]
 fn store_of_another_length() {
     for length in [0, 1, 64, 65, 2145, WORDS - 1] {
@@ -546,7 +606,7 @@ fn limits_are_sound() {
 
 #[test]
 fn rank_62_is_sound() {
-    let entries: Vec<Entry> = (0..64).rev().map(|transaction| [transaction, 0, 1, 7, 0, 1, 0]).collect();
+    let entries: Vec<Entry> = (0..64).rev().map(|transaction| [transaction, 0, 1, transaction, 0, 1, 0]).collect();
     let members: Vec<usize> = (0..63).collect();
     let store = Store::of(&[1]).active(&[63]).pseudo_committed(&members).log(&entries);
     assert!(sound(&store.words));

@@ -129,14 +129,14 @@ part-less a b part other =
     let meet : bitAnd a b ≡ a = same-members (bitAnd a b) a (λ k. met a b k ∙ implied (has a k) (has b k) (part k)) in
     omega (arith, and-le-r a b)
 
--- ---- The set without one, and the lowest member
+-- ---- A set without the members of another, and the lowest member
 
 differing : (a b : ℕ) → Members (bitXor a b) (λ h. cond (has a h) (not (has b h)) (has b h))
 differing = on-bits bitXor (λ p q. cond p (not q) q) xor-shr xor-mod (refl, refl, refl, refl)
 
 -- What is left of a set when a part of it is taken out, as `!` takes it out of all.
-difference : (m x : ℕ) → bitAnd m x ≡ x → m - x ≡ bitXor m x
-difference m x part = omega (arith, xor-add-and m x)
+taken-out : (m x : ℕ) → bitAnd m x ≡ x → m - x ≡ bitXor m x
+taken-out m x part = omega (arith, xor-add-and m x)
 
 within : (p o : Bool) → p ≡ p && o → p ≡ true → o ≡ true
 within true o e m = sym e
@@ -151,15 +151,14 @@ but : (p o e : Bool) → (p ≡ true → o ≡ true) → p && cond o (not e) e �
 but true o e f = rw (f refl)
 but false o e f = refl
 
-pub removed : (s x t : ℕ) → s < 2 ^ 64 → x < 2 ^ 64 → Members x (λ h. eqb h t)
-    → Members (bitAnd s ((2 ^ 64 - 1) - x)) (λ h. has s h && not (eqb h t))
-removed s x t l m one h =
+pub removed : (s x : ℕ) → s < 2 ^ 64 → x < 2 ^ 64
+    → Members (bitAnd s ((2 ^ 64 - 1) - x)) (λ h. has s h && not (has x h))
+removed s x l m h =
     let part : bitAnd (2 ^ 64 - 1) x ≡ x = and-comm (2 ^ 64 - 1) x ∙ and-mask x 64 ∙ mod-eq-of-lt m in
-    ap (λ (n : ℕ). has (bitAnd s n) h) (difference (2 ^ 64 - 1) x part)
+    ap (λ (n : ℕ). has (bitAnd s n) h) (taken-out (2 ^ 64 - 1) x part)
     ∙ met s (bitXor (2 ^ 64 - 1) x) h
     ∙ ap (λ (b : Bool). has s h && b) (differing (2 ^ 64 - 1) x h)
     ∙ but (has s h) (has (2 ^ 64 - 1) h) (has x h) (in-all s h l)
-    ∙ ap (λ (b : Bool). has s h && not b) (one h)
 
 -- t is a member of s, and none is lower.
 abbrev Found : ℕ → ℕ → Type 0
@@ -200,6 +199,12 @@ some-member s some = (trailingZeros s s, lowest-bit s s (above-self s) some .0)
 pub either : (a b : Bool) → ((a || b) ≡ true) ↔ ((a ≡ true) ⊎ (b ≡ true))
 either true b = (λ e. inl refl, λ s. refl)
 either false b = (inr, ⊎-elim (λ e. absurd (false≢true e)) (λ e. e))
+
+-- yes, and not the other
+pub but-not : (p q : Bool) → ((p && not q) ≡ true) ↔ ((p ≡ true) × (q ≡ true → ⊥))
+but-not true true = (λ e. absurd (false≢true e), λ f. absurd (f .1 refl))
+but-not true false = (λ e. (refl, λ f. false≢true f), λ f. refl)
+but-not false q = (λ e. absurd (false≢true e), λ f. absurd (false≢true (f .0)))
 
 pub in-union : (r a b : ℕ) → Members r (λ h. has a h || has b h) → (h : ℕ) → In r h ↔ (In a h ⊎ In b h)
 in-union r a b union h =

@@ -27,6 +27,13 @@ pub fn meet(a: u64, b: u64) -> u64
     a & b
 }
 
+// The members of the first that are not in the second.
+pub fn difference(a: u64, b: u64) -> u64
+    ensures { λ r. ⌜ Members r (λ h. has a h && not (has b h)) ⌝ }
+{
+    a & !b
+}
+
 // Whether the transaction is a member.
 pub fn contains(set: u64, transaction: u32) -> bool
     requires { ⌜ transaction < 64 ⌝ }
@@ -40,7 +47,7 @@ pub fn without(set: u64, transaction: u32) -> u64
     requires { ⌜ transaction < 64 ⌝ }
     ensures { λ r. ⌜ Members r (λ h. has set h && not (eqb h transaction)) ⌝ }
 {
-    set & !single(transaction)
+    difference(set, single(transaction))
 }
 
 // The lowest member of a set that has one.

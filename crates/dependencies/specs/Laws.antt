@@ -1,7 +1,11 @@
 pub mod Sets
+pub mod Differing
 pub mod Entries
 pub mod Numbers
 pub mod Columns
+pub mod Reading
 pub mod Rows
+pub mod Others
+pub mod Entering
 pub mod Barring
 pub mod Gathering

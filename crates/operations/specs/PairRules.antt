@@ -1,20 +1,31 @@
--- Document 01, "Pair rules": a requested operation against one already logged, on one object.
+-- Document 01, "Pair rules": a requested operation against one already logged, on one object; the commuting tables as
+-- document 02, No. 5, refines them.
 use Prim.Native.Nat.{ℕ, _-_, _≤_}
+use mathlib.Core.Path.{_≡_}
 use mathlib.Core.Bool.{Bool, true, false, not, cond, _&&_, _||_}
 use mathlib.Core.List.{List, [], _∷_}
 use lib.Dec.{eqb, leb}
 use lib.ListN.{getD}
-use Rattle.operations.specs.Operations.{Kind, Stack, Set, Table, Operation, kindOf, numberOf, keyOf}
+use Rattle.operations.specs.Operations.{Kind, Stack, Set, Table, Row, Operation, kindOf, numberOf, keyOf}
+use Rattle.operations.specs.Operations.{valueOf, next, answer, WellFormed}
 
--- What a table says of a pair: yes, no, or yes where the keys differ ("apart").
+-- What a table says of a pair: yes; no; yes where the keys differ ("apart"); yes where the items are equal; yes where
+-- the keys differ or the values are equal.
 pub data Rule : Type 0 where
-  always never apart : Rule
+  always never apart equal agreeing : Rule
 
--- Whether a rule says yes to a requested and a logged operation; keys are compared as stored.
+-- Whether a rule says yes, by whether the two keys (of a stack, items) and the two values are the same.
+abbrev pub says : Rule → (sameKey sameValue : Bool) → Bool
+says always sameKey sameValue = true
+says never sameKey sameValue = false
+says apart sameKey sameValue = not sameKey
+says equal sameKey sameValue = sameKey
+says agreeing sameKey sameValue = not sameKey || sameValue
+
+-- Whether it says yes to a requested and a logged operation; keys and values are compared as stored.
 abbrev pub allows : Rule → Operation → Operation → Bool
-allows always requested logged = true
-allows never requested logged = false
-allows apart requested logged = not (eqb (keyOf requested) (keyOf logged))
+allows rule requested logged =
+    says rule (eqb (keyOf requested) (keyOf logged)) (eqb (valueOf requested) (valueOf logged))
 
 -- A row for each requested operation, in it an entry for each logged one, both in the order of their numbers.
 abbrev pub Rules : Type 0
@@ -50,10 +61,10 @@ tableRecoverable =
 
 -- ---- Commuting: the same answers and the same state either way round, from every state
 
--- push, pop, top (figure 1a, but that two pushes do not commute)
+-- push, pop, top (figure 1a, with its Yes-SP for two pushes)
 abbrev pub stackCommuting : Rules
 stackCommuting =
-    (never ∷ never ∷ never ∷ [])  -- push with
+    (equal ∷ never ∷ never ∷ [])  -- push with
     ∷ (never ∷ never ∷ never ∷ [])  -- pop with
     ∷ (never ∷ never ∷ always ∷ [])  -- top with
     ∷ []
@@ -66,14 +77,14 @@ setCommuting =
     ∷ (apart ∷ apart ∷ always ∷ [])  -- member with
     ∷ []
 
--- insert, delete, lookup, size, modify (figure 3a)
+-- insert, delete, lookup, size, modify (figure 3a, but for two modifies of one key with one value)
 abbrev pub tableCommuting : Rules
 tableCommuting =
     (apart ∷ apart ∷ apart ∷ never ∷ apart ∷ [])  -- insert with
     ∷ (apart ∷ apart ∷ apart ∷ never ∷ apart ∷ [])  -- delete with
     ∷ (apart ∷ apart ∷ always ∷ always ∷ apart ∷ [])  -- lookup with
     ∷ (never ∷ never ∷ always ∷ always ∷ always ∷ [])  -- size with
-    ∷ (apart ∷ apart ∷ apart ∷ always ∷ apart ∷ [])  -- modify with
+    ∷ (apart ∷ apart ∷ apart ∷ always ∷ agreeing ∷ [])  -- modify with
     ∷ []
 
 -- ---- The two relations
@@ -132,13 +143,25 @@ recoverable = related recoverableRules
 abbrev pub commutes : Operation → Operation → Bool
 commutes = related commutingRules
 
--- Two pushes, or two modifies of one key: each is recoverable against the other, and the tables still order them. By
--- their numbers, and whether the keys are the same,
-abbrev pub rewriting : (requested logged : ℕ) (sameKey : Bool) → Bool
-rewriting requested logged sameKey =
-    (eqb requested 1 && eqb logged 1) || (eqb requested 11 && (eqb logged 11 && sameKey))
+-- Each is recoverable against the other, yet rows tell which came last: two pushes of different items, or two modifies
+-- of one key with different values. No other pair is meant. By their numbers, and whether keys and values are the same,
+abbrev pub rewriting : (requested logged : ℕ) (sameKey sameValue : Bool) → Bool
+rewriting requested logged sameKey sameValue =
+    (eqb requested 1 && (eqb logged 1 && not sameKey))
+    || (eqb requested 11 && (eqb logged 11 && (sameKey && not sameValue)))
 
 -- and of two operations.
 abbrev pub rewrites : Operation → Operation → Bool
 rewrites requested logged =
     rewriting (numberOf requested) (numberOf logged) (eqb (keyOf requested) (keyOf logged))
+    (eqb (valueOf requested) (valueOf logged))
+
+-- From these rows either order of the two reaches the same rows, and gives each the same answer.
+abbrev pub EitherOrder : Operation → Operation → List Row → Type 0
+EitherOrder o p rs =
+    (next o (next p rs) ≡ next p (next o rs)) × (answer o (next p rs) ≡ answer o rs)
+    × (answer p (next o rs) ≡ answer p rs)
+
+-- From some rows of the kind's form it does not: they show the order.
+abbrev pub OrderShows : (ℕ → ℕ) → Operation → Operation → Type 0
+OrderShows reduce o p = (rs : List Row) × WellFormed reduce (kindOf o) rs × (EitherOrder o p rs → ⊥)

@@ -4,6 +4,7 @@ use mathlib.Core.Path.{_≡_, refl}
 use mathlib.Core.Bool.{true, false}
 use mathlib.Core.Option.{Option, none, some}
 use mathlib.Core.List.{List, [], _∷_}
+use borrow.Author.Tests.{eq-eqb, ne-eqb}
 use Rattle.operations.specs.Operations.{Operation, onStack, onTable, push, lookup, size, tableInsert, modify, Row}
 use Rattle.operations.specs.Operations.{Answer, answering, stored, reduceKey, byOrder, next, answer}
 use Rattle.operations.specs.PairRules.{recoverable, commutes}
@@ -39,8 +40,10 @@ pub samples : (v w : ℕ)
     -- P9: lookup 5 against modify 6 yes, against modify 5 no
     × (recoverable (onTable (lookup 5)) (onTable (modify 6 v)) ≡ true)
     × (recoverable (onTable (lookup 5)) (onTable (modify 5 v)) ≡ false)
-    -- P10: push against push: recoverable, not commuting
+    -- P10: push against push: recoverable, of different items not commuting, of one item commuting
     × (recoverable (onStack (push v)) (onStack (push w)) ≡ true)
-    × (commutes (onStack (push v)) (onStack (push w)) ≡ false)
+    × ((v ≡ w → ⊥) → commutes (onStack (push v)) (onStack (push w)) ≡ false)
+    × (commutes (onStack (push v)) (onStack (push v)) ≡ true)
 unfolding reduceKey byOrder
-samples v w = (refl, refl, refl, refl, refl, refl, refl, refl, refl, refl, refl, refl, refl)
+samples v w =
+    (refl, refl, refl, refl, refl, refl, refl, refl, refl, refl, refl, refl, ne-eqb v w, eq-eqb v v refl)

@@ -1,11 +1,12 @@
 -- What holds of the operations and the pair rules, for every kind of object, every operation and argument, every
 -- well-formed state of any size, and any key reduction.
-use Prim.Native.Nat.{ℕ, _+_, _*_, _^_, _<_}
+use Prim.Native.Nat.{ℕ, _+_, _*_, _^_, _≤_, _<_}
 use mathlib.Core.Path.{_≡_, refl, ap}
 use mathlib.Core.Logic.{_↔_}
 use mathlib.Core.Bool.{Bool, true, false, not}
 use mathlib.Core.Option.{some}
 use mathlib.Core.List.{List, [], _∷_, map}
+use lib.ListN.{length}
 use native.Mathlib.Omega.{arith}
 use Rattle.operations.specs.Operations.{Kind, Row, Answer, answering, flag, valued, push, pop, setInsert}
 use Rattle.operations.specs.Operations.{setDelete, member, TableOperation, tableInsert, tableDelete, lookup}
@@ -13,7 +14,7 @@ use Rattle.operations.specs.Operations.{modify, onTable}
 use Rattle.operations.specs.Operations.{Operation, kindOf, numberOf, keyOf, valueOf, reduceKey, numbered, stored}
 use Rattle.operations.specs.Operations.{found, present, stackNext, stackAnswer, setNext, setAnswer, tableNext}
 use Rattle.operations.specs.Operations.{tableAnswer, next, answer, All, Ascending, WellFormed, Holdable, Fits}
-use Rattle.operations.specs.PairRules.{recoverable, commutes, rewrites}
+use Rattle.operations.specs.PairRules.{recoverable, commutes, rewrites, EitherOrder}
 use Rattle.operations.specs.Log.{Entry, Recoverable, Commuting, Answered}
 use Rattle.operations.specs.Log.{after, only, others}
 use Rattle.operations.specs.Laws.Cases.{split}
@@ -22,6 +23,7 @@ use Rattle.operations.specs.Laws.Stacks.{top-of-pushed, popped-of-pushed
 use Rattle.operations.specs.Laws.Tables.{change, found-own, found-other, present-own}
 use Rattle.operations.specs.Laws.Objects.{object}
 use Rattle.operations.specs.Laws.Witnesses.{witness, witness-valid, witness-holdable, witness-differs}
+use Rattle.operations.specs.Laws.Witnesses.{orderWitness, order-valid, order-differs, order-holdable}
 use Rattle.operations.specs.Laws.Grid as grid
 use Rattle.operations.specs.Laws.Recoverability as recoverability
 
@@ -85,8 +87,8 @@ answers-after-delete k w rs a =
 
 -- ---- The two relations
 
--- The commuting tables say yes exactly where each of the two is recoverable against the other, but for two pushes and
--- two modifies of one key.
+-- The commuting tables say yes exactly where each of the two is recoverable against the other, and they are neither two
+-- pushes of different items nor two modifies of one key with different values (`rewrites`).
 pub commuting-mutual : (o p : Operation) → kindOf p ≡ kindOf o
     → (commutes o p ≡ true) ↔ ((recoverable o p ≡ true) × (recoverable p o ≡ true) × (rewrites o p ≡ false))
 commuting-mutual = grid.commuting-mutual
@@ -110,13 +112,27 @@ module _ (reduce : ℕ → ℕ) (kind : Kind) where
     pub unrecoverable-shown : keyOf p < 2 ^ 32 → recoverable o p ≡ false
         → (rs : List Row) × WellFormed reduce kind rs × Holdable rs × (answer o (next p rs) ≡ answer o rs → ⊥)
     unrecoverable-shown h e =
-        (witness p, witness-valid reduce kind p fp, witness-holdable p h, witness-differs kind o p (fo .0) (fp .0) e)
+        (witness p, witness-valid reduce kind p fp, witness-holdable p h .1, witness-differs kind o p (fo .0) (fp .0) e)
 
-    -- Where the commuting tables say yes, both orders give the same state and the same answers.
-    pub commuting : commutes o p ≡ true → (rs : List Row) → WellFormed reduce kind rs
-        → (next o (next p rs) ≡ next p (next o rs)) × (answer o (next p rs) ≡ answer o rs)
-        × (answer p (next o rs) ≡ answer p rs)
-    commuting e rs v = recoverability.either-order (object reduce kind) o p rs fo fp v e
+    -- The commuting tables say yes exactly where both orders give the same state and the same answers from every
+    -- state. Where they say no, rows show it; where keys and items have 32 bits, at most one row, of a form that a
+    -- sound book can hold.
+    pub commuting-exact :
+        ((commutes o p ≡ true) ↔ ((rs : List Row) → WellFormed reduce kind rs → EitherOrder o p rs))
+        × (commutes o p ≡ false
+        → (rs : List Row) × WellFormed reduce kind rs × (EitherOrder o p rs → ⊥)
+        × (keyOf o < 2 ^ 32 → keyOf p < 2 ^ 32 → (length rs ≤ 1) × Holdable rs))
+    commuting-exact =
+        let valid = order-valid reduce kind o p fo fp in
+        let differs : commutes o p ≡ false → EitherOrder o p (orderWitness o p) → ⊥ =
+        order-differs kind o p (fo .0) (fp .0) in (
+          (
+            λ e rs v. recoverability.either-order (object reduce kind) o p rs fo fp v e,
+            λ same. split (commutes o p) (λ (e : commutes o p ≡ true). e)
+                (λ (e : commutes o p ≡ false). absurd (differs e (same (orderWitness o p) valid))),
+          ),
+          λ e. (orderWitness o p, valid, differs e, order-holdable o p),
+        )
 
   -- ---- Logs of several transactions on one object
 

@@ -11,7 +11,7 @@ use Rattle.operations.specs.PairRules.{Rule, never, Rules, ruleAt, related, fir
 use Rattle.operations.specs.PairRules.{kindNumbered, recoverableRules}
 use Rattle.operations.specs.Laws.Numbers.{numbered-as}
 use Rattle.operations.specs.declared.Operation.{Operation}
-use Rattle.pairs.specs.Pairs.{codeOf, codeAt, allowsKeys, OneKind, both, pairOf, RowOf, Filled}
+use Rattle.pairs.specs.Pairs.{codeOf, codeAt, ByKeys, allowsKeys, OneKind, both, pairOf, RowOf, Filled}
 
 -- Every look-up: the table of codes has the code of each rule. Outside it both say `never`, whose code is 0.
 pub code : (rules : Rules) (requested logged : ℕ) → getD (getD (map (map codeOf) rules) requested []) logged 0
@@ -44,15 +44,16 @@ each-up-to zero P h (suc n) l = absurd (not-suc-le-zero l)
 each-up-to (suc last) P h zero l = h .0
 each-up-to (suc last) P h (suc n) l = each-up-to last (λ m. P (suc m)) (h .1) n (le-of-suc-le-suc l)
 
--- The stored keys decide at each pair of a kind: no pair is "apart" of which one operation has no key.
+-- The stored keys alone decide at each pair of a kind: no pair is "apart" of which one operation has no key.
 abbrev KeysDecide : (model.Kind → Rules) → Type 0
 KeysDecide rules =
     (kind : model.Kind) (k v k′ v′ : ℕ) →
     (let last = lastNumber kind - firstNumber kind in
     EachUpTo last (λ i. EachUpTo last (λ j.
-    allowsKeys (ruleAt (rules kind) i j) k k′
+    ByKeys (ruleAt (rules kind) i j)
+    × (allowsKeys (ruleAt (rules kind) i j) k k′
     ≡ both (related rules) (model.stored (λ x. x) (firstNumber kind + i) k v)
-    (model.stored (λ x. x) (firstNumber kind + j) k′ v′))))
+    (model.stored (λ x. x) (firstNumber kind + j) k′ v′)))))
 
 pub recoverableKeyed : KeysDecide recoverableRules
 recoverableKeyed model.Stack k v k′ v′ = search depth 8
@@ -64,7 +65,8 @@ pub decided : (rules : model.Kind → Rules) → KeysDecide rules → (kind : mo
     Within kind (requested .number) (logged .number) →
     {found : ℕ} →
     found ≡ codeAt (rules kind) (requested .number - firstNumber kind) (logged .number - firstNumber kind) →
-    {r : Bool} → ((rule : Rule) → found ≡ codeOf rule → r ≡ allowsKeys rule (requested .key) (logged .key)) →
+    {r : Bool} →
+    ((rule : Rule) → ByKeys rule → found ≡ codeOf rule → r ≡ allowsKeys rule (requested .key) (logged .key)) →
     r ≡ pairOf (related rules) requested logged
 decided rules keyed kind requested logged w found allowed =
     let first = firstNumber kind in
@@ -75,7 +77,8 @@ decided rules keyed kind requested logged w found allowed =
     let atJ : first + j ≡ logged .number = omega arith in
     let row = each-up-to last _ (keyed kind (requested .key) (requested .value) (logged .key) (logged .value)) i
     (omega arith) in
-    allowed (ruleAt (rules kind) i j) found ∙ (rw (atI, atJ) at (each-up-to last _ row j (omega arith)))
+    let (by-keys, says) = each-up-to last _ row j (omega arith) in
+    allowed (ruleAt (rules kind) i j) by-keys found ∙ (rw (atI, atJ) at says)
 
 -- `recoverable_row` and `commuting_row`: what each of the three ways out gives.
 module _ (rules : model.Kind → Rules) (requested : ℕ) where

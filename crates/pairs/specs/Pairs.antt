@@ -6,8 +6,8 @@ use mathlib.Core.List.{List}
 use mathlib.Core.Option.{Option, none, some}
 use lib.ListN.{getD}
 use Rattle.operations.specs.Operations as model
-use Rattle.operations.specs.PairRules.{Rule, always, never, apart, Rules, allows, ruleAt, firstNumber, lastNumber}
-use Rattle.operations.specs.PairRules.{OfKind, kindNumbered, recoverableRules, commutingRules}
+use Rattle.operations.specs.PairRules.{Rule, always, never, apart, equal, agreeing, Rules, allows, ruleAt}
+use Rattle.operations.specs.PairRules.{firstNumber, lastNumber, OfKind, kindNumbered, recoverableRules, commutingRules}
 use Rattle.operations.specs.declared.Operation.{Operation}
 use Rattle.operations.specs.Stored.{operationOf}
 
@@ -16,9 +16,19 @@ abbrev pub codeOf : Rule → ℕ
 codeOf never = 0
 codeOf always = 1
 codeOf apart = 2
+codeOf equal = 3
+codeOf agreeing = 4
 
 abbrev pub codeAt : Rules → ℕ → ℕ → ℕ
 codeAt rules requested logged = codeOf (ruleAt rules requested logged)
+
+-- A rule that goes by the keys alone, as all of the recoverable tables do.
+abbrev pub ByKeys : Rule → Type 0
+ByKeys always = Unit {0}
+ByKeys never = Unit {0}
+ByKeys apart = Unit {0}
+ByKeys equal = ⊥
+ByKeys agreeing = ⊥
 
 -- A rule's test of two keys, as of two operations that have them.
 abbrev pub allowsKeys : Rule → ℕ → ℕ → Bool

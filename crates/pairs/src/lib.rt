@@ -10,13 +10,18 @@ ghost use Prim.Native.Nat.{_-_, _≤_};
 ghost use Rattle.operations.specs.PairRules.{Rule, recoverable as Recoverable};
 ghost use Rattle.operations.specs.PairRules.{Numbered, recoverableRules, commutingRules};
 ghost use Rattle.operations.specs.PairRules.{stackRecoverable, setRecoverable, tableRecoverable};
-ghost use Rattle.pairs.specs.Pairs.{OneKind, codeOf, codeAt, allowsKeys, pairOf, RowOf, RowsOf, Filled};
+ghost use Rattle.pairs.specs.Pairs.{OneKind, codeOf, codeAt, ByKeys, allowsKeys, pairOf, RowOf};
+ghost use Rattle.pairs.specs.Pairs.{RowsOf, Filled};
 
 pub const NEVER: u8 = 0;
 
 pub const ALWAYS: u8 = 1;
 
 pub const APART: u8 = 2;
+
+pub const EQUAL: u8 = 3;
+
+pub const AGREEING: u8 = 4;
 
 // How many operations a kind has: a stack and a set, and a table.
 pub const NARROW: usize = 3;
@@ -31,7 +36,7 @@ const STACK_RECOVERABLE: [[u8; NARROW]; NARROW] = [
 ];
 
 const STACK_COMMUTING: [[u8; NARROW]; NARROW] = [
-    [NEVER, NEVER, NEVER], // push with
+    [EQUAL, NEVER, NEVER], // push with
     [NEVER, NEVER, NEVER], // pop with
     [NEVER, NEVER, ALWAYS], // top with
 ];
@@ -63,7 +68,7 @@ const TABLE_COMMUTING: [[u8; BROAD]; BROAD] = [
     [APART, APART, APART, NEVER, APART], // delete with
     [APART, APART, ALWAYS, ALWAYS, APART], // lookup with
     [NEVER, NEVER, ALWAYS, ALWAYS, ALWAYS], // size with
-    [APART, APART, APART, ALWAYS, APART], // modify with
+    [APART, APART, APART, ALWAYS, AGREEING], // modify with
 ];
 
 // Each look-up takes the two operations' numbers.
@@ -136,9 +141,10 @@ pub fn rows(requested: u32) -> RuleRows
     }
 }
 
-// A table's code, tested on the two operations.
+// A recoverable table's code, tested on the two operations.
 fn allowed(code: u8, requested: Operation, logged: Operation) -> bool
-    ensures { λ r. ⌜ ((rule : Rule) → code ≡ codeOf rule → r ≡ allowsKeys rule (requested .key) (logged .key)) ⌝ }
+    ensures { λ r. ⌜ ((rule : Rule) → ByKeys rule → code ≡ codeOf rule
+        → r ≡ allowsKeys rule (requested .key) (logged .key)) ⌝ }
 {
     match code {
         NEVER => false,

@@ -4,7 +4,8 @@ use mathlib.Core.Path.{_≡_}
 use mathlib.Core.Bool.{false}
 use mathlib.Core.Logic.{_⊎_}
 use mathlib.Core.List.{List, [], _∷_}
-use Rattle.operations.specs.PairRules.{commutes}
+use Rattle.operations.specs.Operations.{Operation}
+use Rattle.operations.specs.PairRules.{commutes, OrderShows}
 use Rattle.store.specs.Store.{transactionCount, Logged, Store, PseudoCommitted}
 
 -- Some element is such.
@@ -17,11 +18,19 @@ abbrev pub Follows : {A : Type 0} → (A → A → Type 0) → List A → Type 0
 Follows R [] = ⊥
 Follows R (e ∷ l) = Any (R e) l ⊎ Follows R l
 
--- Entry e is b's, the later entry x is a's, both are of one object, and they do not commute.
-abbrev pub Conflict : ℕ → ℕ → Logged → Logged → Type 0
-Conflict a b e x =
+-- Entry e is b's, the later entry x is a's, both are of one object, and their operations are so related.
+abbrev pub Related : (Operation → Operation → Type 0) → ℕ → ℕ → Logged → Logged → Type 0
+Related R a b e x =
     (x .entry .transaction ≡ a) × (e .entry .transaction ≡ b) × (x .object ≡ e .object)
-    × (commutes (x .entry .operation) (e .entry .operation) ≡ false)
+    × R (x .entry .operation) (e .entry .operation)
+
+-- They do not commute.
+abbrev pub Conflict : ℕ → ℕ → Logged → Logged → Type 0
+Conflict = Related (λ x e. commutes x e ≡ false)
+
+-- Some rows show their order.
+abbrev pub Shown : (ℕ → ℕ) → ℕ → ℕ → Logged → Logged → Type 0
+Shown reduce = Related (OrderShows reduce)
 
 -- Transaction a depends on b: one of its entries follows a non-commuting entry of b on the same object. Its own never
 -- count.

@@ -8,7 +8,7 @@ use Rattle.operations.specs.PairRules.{commutes}
 use Rattle.operations.specs.Operations.{Kind}
 use Rattle.operations.specs.Log.{Commuting, one}
 use Rattle.store.specs.Store.{Logged, Store, Active, PseudoCommitted, onObject}
-use Rattle.store.specs.Dependency.{DependsOn, Leads, OnCycle, PRED, SUCC, Meet}
+use Rattle.store.specs.Dependency.{Follows, Shown, DependsOn, Leads, OnCycle, PRED, SUCC, Meet}
 use Rattle.store.specs.Layout.{encode, decode, Packed, Representable, base}
 use Rattle.store.specs.Soundness.{Acyclic, Dependent, Sound}
 use Rattle.store.specs.Laws.Words.{zeros-word}
@@ -17,7 +17,7 @@ use Rattle.store.specs.Laws.Objects.{base-laid}
 use Rattle.store.specs.Laws.Empty.{base-zeros-sound}
 use Rattle.store.specs.Laws.Ways.{predecessor-from-near, successor-from-near, meets-on-cycle}
 use Rattle.store.specs.Laws.Cycles as cycles
-use Rattle.store.specs.Laws.Dependencies.{ready-commuting, commuting-ready}
+use Rattle.store.specs.Laws.Dependencies.{ready-commuting, commuting-ready, depends-shown}
 
 -- ---- Layout
 
@@ -48,6 +48,15 @@ zeros-sound = base-zeros-sound (replicate 3_937 0) (zeros-word 3_937) (length-re
 pub depends-on-nobody : (reduce : ℕ → ℕ) (kind : Kind) (t : ℕ) (log : List Logged)
     → ((u : ℕ) → DependsOn log t u → ⊥) ↔ ((o : ℕ) → Commuting commutes (one t) (onObject o log))
 depends-on-nobody reduce kind t log = (ready-commuting reduce kind t log, commuting-ready reduce kind t log)
+
+-- Nobody waits to commit for nothing: a depends on b exactly where an entry of a follows one of b on an object, some
+-- rows of which show their order.
+pub depends-where-order-shows : (w : List ℕ) → Sound base w → (a b : ℕ)
+    → (let log = decode base w .log in
+    DependsOn log a b ↔ ((a ≡ b → ⊥) × Follows (Shown (base .reduce) a b) log))
+depends-where-order-shows w sound =
+    let store = sound .store .unsettled in
+    depends-shown base (decode base w) (store .fits) (store .reduced)
 
 -- A cycle of at most 64 steps is there exactly where one of any length is.
 pub cycle-any-length : (s : Store) → length (s .statuses) ≡ 64 → (t : ℕ) → t < 64

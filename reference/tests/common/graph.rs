@@ -27,15 +27,23 @@ pub const FINISHES: [&str; 4] = [CIRCLE, FAR_CIRCLE, ACTIVE_BETWEEN, SETS_APART]
 pub struct Live {
     pub active: Transactions,
     pub pseudo_committed: Transactions,
-    /// Transaction, object, operation and reduced key, oldest first.
-    pub log: Vec<[u32; 4]>,
+    /// Oldest first.
+    pub log: Vec<Logged>,
+}
+
+/// An entry's transaction, object, operation, reduced key and value.
+pub type Logged = [u32; 5];
+
+/// Whether the operations of two entries on one object commute.
+pub fn commuting(one: &Logged, other: &Logged) -> bool {
+    commutes((one[2], one[3], one[4]), (other[2], other[3], other[4]))
 }
 
 impl Live {
     /// As the words of a sound store say.
     pub fn of(store: &[u32]) -> Live {
         let with = |fits: fn(u32) -> bool| (0..64).filter(move |&t| fits(store[status_word(t as usize)])).collect();
-        let entry = |entry| store[entry_word(entry)..][..4].try_into().expect("four words");
+        let entry = |entry| store[entry_word(entry)..][..5].try_into().expect("five words");
         Live {
             active: with(|status| status == 1),
             pseudo_committed: with(|status| status > 1),
@@ -48,8 +56,8 @@ impl Live {
         match (call, outcome) {
             (Call::SetUp { .. }, Ok(_)) => *self = Live::default(),
             (&Call::Begin { transaction }, Ok(_)) => drop(self.active.insert(transaction)),
-            (&Call::Operate { transaction, object, operation, key, .. }, Ok(Reply::Answer { .. })) => {
-                self.enter(transaction, &[object, operation, key, 0]);
+            (&Call::Operate { transaction, object, operation, key, value }, Ok(Reply::Answer { .. })) => {
+                self.enter(transaction, &[object, operation, key, value]);
             }
             (&Call::Batch { transaction, ref operations }, Ok(Reply::Answers(_))) => {
                 operations.chunks(4).for_each(|words| self.enter(transaction, words));
@@ -66,14 +74,15 @@ impl Live {
         }
     }
 
-    /// Logs an operation by its words; pop, top and size have no key.
+    /// Logs an operation by its words; pop, top and size have no key, and only table insert and modify a value.
     fn enter(&mut self, transaction: u32, words: &[u32]) {
         let key = match words[1] {
             2 | 3 | 10 => 0,
             1 => words[2],
             _ => words[2] % UNREDUCED,
         };
-        self.log.push([transaction, words[0], words[1], key]);
+        let value = if matches!(words[1], 7 | 11) { words[3] } else { 0 };
+        self.log.push([transaction, words[0], words[1], key, value]);
     }
 
     fn end(&mut self, transaction: u32) {
@@ -82,13 +91,22 @@ impl Live {
         self.log.retain(|entry| entry[0] != transaction);
     }
 
+    /// Every two entries of two transactions on one object, the later one first.
+    pub fn pairs(&self) -> impl Iterator<Item = (&Logged, &Logged)> {
+        self.log.iter().enumerate().flat_map(|(index, later)| {
+            let earlier = self.log[..index].iter().filter(|entry| entry[0] != later[0] && entry[1] == later[1]);
+            earlier.map(move |earlier| (later, earlier))
+        })
+    }
+
     pub fn graph(&self) -> Graph {
-        let mut edges = BTreeSet::new();
-        for (index, &[transaction, object, operation, key]) in self.log.iter().enumerate() {
-            let earlier = self.log[..index].iter().filter(|entry| entry[0] != transaction && entry[1] == object);
-            let against = earlier.filter(|entry| !commutes((operation, key), (entry[2], entry[3])));
-            edges.extend(against.map(|entry| (transaction, entry[0])));
-        }
+        self.graph_by(commuting)
+    }
+
+    /// The graph if such entries commuted.
+    pub fn graph_by(&self, commuting: impl Fn(&Logged, &Logged) -> bool) -> Graph {
+        let against = self.pairs().filter(|(later, earlier)| !commuting(later, earlier));
+        let edges = against.map(|(later, earlier)| (later[0], earlier[0])).collect();
         Graph { pseudo_committed: self.pseudo_committed.clone(), edges }
     }
 

@@ -30,6 +30,10 @@ pub const WHOLE_CASE: &str = include_str!("../../../examples/whole_case.txt");
 /// nobody and commits, where the table says P-C; the others do once 3 has aborted.
 pub const TABLE_1: &str = include_str!("../../../examples/table_1.txt");
 
+/// The paper's sample on two stacks, its items different, and the same with items that are equal on each.
+pub const TWO_STACKS: &str = include_str!("../../../examples/two_stacks.txt");
+pub const EQUAL_ITEMS: &str = include_str!("../../../examples/equal_items.txt");
+
 pub type Entry = [u32; 7];
 
 pub const fn status_word(transaction: usize) -> usize {

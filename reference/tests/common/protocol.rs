@@ -138,6 +138,11 @@ fn entries_on(store: &[u32], object: u32) -> Vec<Entry> {
     entries(store).filter(|entry| entry[1] == object).collect()
 }
 
+/// An entry's operation, key or item, and value.
+fn operation(entry: &Entry) -> (u32, u32, u32) {
+    (entry[2], entry[3], entry[4])
+}
+
 /// The pseudo-committed transactions, lowest rank first.
 pub fn pseudo_committed(store: &[u32]) -> Vec<u32> {
     let mut transactions: Vec<u32> = (0..64).filter(|&transaction| status(store, transaction) > 1).collect();
@@ -151,7 +156,7 @@ fn dependencies(store: &[u32]) -> Dependencies {
         let entries = entries_on(store, object);
         for (index, later) in entries.iter().enumerate() {
             let earlier = entries[..index].iter().filter(|earlier| earlier[0] != later[0]);
-            let against = earlier.filter(|earlier| !commutes((later[2], later[3]), (earlier[2], earlier[3])));
+            let against = earlier.filter(|earlier| !commutes(operation(later), operation(earlier)));
             dependencies.extend(against.map(|earlier| (later[0], earlier[0])));
         }
     }

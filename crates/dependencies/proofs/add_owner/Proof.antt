@@ -6,7 +6,7 @@ use borrow.Author.Needs.{needs}
 use lib.ListN.{set}
 use Rattle.pairs.specs.Pairs.{columnOf}
 use Rattle.dependencies.specs.Dependencies.{WithOwner}
-use Rattle.dependencies.specs.Laws.Sets.{with-owner}
+use Rattle.dependencies.specs.Laws.Sets.{added, one-owner}
 use Rattle.dependencies.specs.Laws.Numbers.{ranged}
 use Rattle.dependencies.proofs.add_owner.Statement.{statement}
 use Rattle.dependencies.proofs.add_owner.Tie as tie
@@ -28,10 +28,11 @@ returns c =
     let asked = c .before .before .before in
     let start = asked .before .before in
     let row = start .args .row .now in
-    subst (λ (m : ℕ). WithOwner 5 row m (start .args .owner) (set row (asked .wide .result) (c .join .result)))
+    let below : asked .wide .result < 6 = omega (arith, inside asked) in
+    subst (λ (m : ℕ). WithOwner 6 row m (start .args .owner) (set row (asked .wide .result) (c .join .result)))
     (column asked)
-    (with-owner 5 row (asked .wide .result) _ _ _ (start .pre .0) (inside asked) (c .before .single .ensures)
-    (c .join .ensures))
+    (added _ 6 row (asked .wide .result) _ (start .pre .0) _ _ below below
+    (one-owner _ (start .args .owner) (c .before .single .ensures)) (c .join .ensures))
 
 pub add-owner-spec : {M : Type 1} → statement M
 add-owner-spec =
@@ -41,9 +42,9 @@ add-owner-spec =
     sub-wide
     (λ c κs. search needs)
     (λ c. search needs)
-    (λ c. inside c)
+    (λ c. omega (arith, inside c))
     (λ c κs. search needs)
     (λ c κs. search needs)
     (λ c. search needs)
-    (λ c. inside (c .before .before .before))
+    (λ c. omega (arith, inside (c .before .before .before)))
     returns)

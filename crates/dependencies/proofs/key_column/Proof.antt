@@ -15,7 +15,7 @@ unfolding keyColumn
 third c = ⊎-elim (λ e. sym (ap keyColumn e)) (λ e. sym (ap keyColumn e)) (c .match .keys3)
 
 low : tie.Need-returns-3
-low c = low-column _ (c .if1 .taken)
+low c = low-column _ (c .if1 .taken) (λ e. c .before .match .rest .0 .0 .1 (inl e))
 
 high : tie.Need-returns-4
 high c =
@@ -24,12 +24,12 @@ high c =
 
 first : tie.Need-returns-5
 unfolding keyColumn
-first c = sym (ap keyColumn (c .match .keys1))
+first c = ⊎-elim (λ e. sym (ap keyColumn e)) (λ e. sym (ap keyColumn e)) (c .match .keys1)
 
 middle : tie.Need-returns-6
 middle c =
     let others = c .before .before .match .rest in
-    middle-column _ (c .before .if1 .left) (c .if2 .taken) (others .0 .0 .1) (λ e. others .0 .1 (inl e))
+    middle-column _ (c .before .if1 .left) (c .if2 .taken) (λ e. others .0 .0 .1 (inr e)) (λ e. others .0 .1 (inl e))
     (λ e. others .1 (inl e))
 
 pub key-column-spec : {M : Type 1} → statement M

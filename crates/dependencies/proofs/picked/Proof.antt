@@ -11,20 +11,20 @@ use Rattle.dependencies.proofs.picked.Statement.{statement}
 use Rattle.dependencies.proofs.picked.Tie as tie
 
 abbrev Inv-loop : tie.InvT-loop
-Inv-loop number whole same recoverable commuting columns first u₀ v₀ at₀ unrecoverable conflicting at =
-    (at ≤ widthOf number) × Holds unrecoverable (Picked recoverableRules number whole same at)
-    × Holds conflicting (Picked commutingRules number whole same at)
+Inv-loop number whole same others recoverable commuting columns first u₀ v₀ at₀ unrecoverable conflicting at =
+    (at ≤ widthOf number) × Holds unrecoverable (Picked recoverableRules number whole same others at)
+    × Holds conflicting (Picked commutingRules number whole same others at)
 
 abbrev μ-loop : tie.MeasureT-loop
-μ-loop number whole same recoverable commuting columns first u₀ v₀ at₀ unrecoverable conflicting at =
+μ-loop number whole same others recoverable commuting columns first u₀ v₀ at₀ unrecoverable conflicting at =
     widthOf number - at
 
 loop-holds : tie.Need-loop-holds Inv-loop μ-loop
 loop-holds c =
     let args = c .before .before .before .before .args in (
       omega arith,
-      picked-none recoverableRules (args .number) (args .whole .now) (args .same .now),
-      picked-none commutingRules (args .number) (args .whole .now) (args .same .now),
+      picked-none recoverableRules (args .number) (args .whole .now) (args .same .now) (args .others),
+      picked-none commutingRules (args .number) (args .whole .now) (args .same .now) (args .others),
     )
 
 abbrev entered : tie.In-loop Inv-loop μ-loop → tie.Start Inv-loop μ-loop
@@ -54,12 +54,15 @@ loop-again c =
     let at-loop = turn .before .loop in
     let start = entered turn in
     let args = start .args in
+    let number = args .number in
+    let whole = args .whole .now in
+    let same = args .same .now in
     let first = turn .before .before .first .ensures in (
       omega (arith, below turn),
-      picked-more recoverableRules (args .number) (args .whole .now) (args .same .now) (at-loop .at) _ _ _ _ _ _ first
+      picked-more recoverableRules number whole same (args .others) (at-loop .at) _ _ _ _ _ _ first
           (found .key-owners .ensures) (start .pre .1 .0 (at-loop .at) (below turn)) (joined .before .pick .ensures)
           (at-loop .inv .1) (joined .join .ensures),
-      picked-more commutingRules (args .number) (args .whole .now) (args .same .now) (at-loop .at) _ _ _ _ _ _ first
+      picked-more commutingRules number whole same (args .others) (at-loop .at) _ _ _ _ _ _ first
           (found .key-owners .ensures) (start .pre .1 .1 (at-loop .at) (below turn)) (c .before .pick2 .ensures)
           (at-loop .inv .2) (c .join2 .ensures),
     )
@@ -82,7 +85,7 @@ picked-spec =
     (λ c κs. c .before .before .before .pre .0)
     loop-holds
     (λ c. omega (arith, inside c))
-    (λ c. inside c)
+    (λ c. omega (arith, inside c))
     (λ c. omega (arith, inside (c .before)))
     add-key-owners
     (λ c κs. entered (c .before) .pre .2)

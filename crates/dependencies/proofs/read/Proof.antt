@@ -1,7 +1,7 @@
 -- `dependencies::read` meets its contract.
 use mathlib.Core.Path.{_∙_}
 use borrow.Author.Needs.{needs}
-use Rattle.dependencies.specs.Laws.Barring.{entry-read}
+use Rattle.dependencies.specs.Laws.Reading.{entry-read}
 use Rattle.dependencies.proofs.read.Statement.{statement}
 use Rattle.dependencies.proofs.read.Tie as tie
 

@@ -1,109 +1,72 @@
 -- Rows of owners: what an entry adds to them.
 use Prim.Native.Nat.{ℕ, _+_, _<_}
 use mathlib.Core.Path.{_≡_, sym, _∙_}
-use mathlib.Core.Bool.{true, false}
+use mathlib.Core.Bool.{true}
 use mathlib.Core.Logic.{_↔_, _⊎_, inl, inr, ⊎-elim}
 use mathlib.Core.List.{List, []}
 use native.Mathlib.Omega.{arith}
-use borrow.Author.Tests.{ltb-true, ltb-false}
-use lib.Dec.{ltb}
-use lib.ListN.{getD, set, replicate, length-set, length-replicate, getD-replicate}
-use lib.Seq.{getD-set-same, getD-set-other}
+use lib.ListN.{getD, replicate, length-replicate, getD-replicate}
 use Rattle.operations.specs.Laws.Cases
-use Rattle.operations.specs.Laws.Cases.{split}
-use Rattle.bitset.specs.Bitset.{has, Represents}
+use Rattle.bitset.specs.Laws.{holds-none}
 use Rattle.pairs.specs.Pairs.{columnOf}
-use Rattle.representatives.specs.Representatives.{entryTransaction, entryNumber, Representative}
-use Rattle.representatives.specs.Laws.Firsts.{alike-back, alike-both, firsts-apart}
-use Rattle.dependencies.specs.Dependencies.{keyColumn, EntryRead, Owned, OwnersRow, WithOwner, WithKeyOwner}
-use Rattle.dependencies.specs.Dependencies.{On, AlikeByKey, Gathered}
-use Rattle.dependencies.specs.Laws.Sets.{some-none, some-more, represents-same, blank-row}
+use Rattle.representatives.specs.Representatives.{entryTransaction, entryNumber, entryKey, entryValue, AlikeBy}
+use Rattle.dependencies.specs.Dependencies.{keyColumn, Owner, Owned, Differing, Varied, OwnersRow}
+use Rattle.dependencies.specs.Dependencies.{Added, WithOwner, On, AlikeByKey, Pushes, Modifies, Gathered}
+use Rattle.dependencies.specs.Laws.Sets.{some-none, some-more, represents-same, blank, blank-row, added-row}
+use Rattle.dependencies.specs.Laws.Differing.{varied-more}
 
-row-same : (n : ℕ) (R S : ℕ → ℕ → Type 0) (row : List ℕ) → OwnersRow n row R
-    → ((a b : ℕ) → R a b ↔ S a b) → OwnersRow n row S
-row-same n R S row r e = record { columns = r .columns; sets = represents-same R S row (r .sets) e }
+-- ---- A row of owners by column, and at one place those with different items
 
--- ---- One entry more
+module _ (column : ℕ → ℕ) (P : ℕ → Type 0) (place : ℕ) (Q : ℕ → Type 0) (item : ℕ → ℕ) (w : List ℕ) where
+  abbrev Row : ℕ → ℕ → ℕ → Type 0
+  Row n m b = Owned column P w n m b ⊎ ((place ≡ m) × Varied Q item w n b)
 
-module _ (n : ℕ) (column : ℕ → ℕ) (P : ℕ → Type 0) (w : List ℕ) (i : ℕ) (row : List ℕ)
-    (held : OwnersRow n row (Owned column P w i)) where
-  more : (m b : ℕ) → (Owned column P w i m b ⊎ (P i × (column (entryNumber w i) ≡ m) × (entryTransaction w i ≡ b)))
-      ↔ Owned column P w (i + 1) m b
-  more m b = some-more (λ j. P j × (column (entryNumber w j) ≡ m) × (entryTransaction w j ≡ b)) i
+  module _ (n i : ℕ) (row : List ℕ) (held : OwnersRow n row (Row i)) where
+    own : (m b : ℕ) → (Owned column P w i m b ⊎ (P i × (column (entryNumber w i) ≡ m) × (entryTransaction w i ≡ b)))
+        ↔ Owned column P w (i + 1) m b
+    own m b = some-more (λ j. P j × (column (entryNumber w j) ≡ m) × (entryTransaction w j ≡ b)) i
 
-  row-kept : (P i → ⊥) → OwnersRow n row (Owned column P w (i + 1))
-  row-kept other =
-      row-same n (Owned column P w i) (Owned column P w (i + 1)) row held
-      (λ m b. (
-        λ x. more m b .0 (inl x),
-        λ x. ⊎-elim (λ y. y) (λ y. absurd (other (y .0))) (more m b .1 x),
-      ))
+    pub row-kept : (P i → ⊥) → (Q i → ⊥) → OwnersRow n row (Row (i + 1))
+    row-kept other varies =
+        record {
+          columns = held .columns;
+          sets = represents-same (Row i) (Row (i + 1)) row (held .sets)
+              (λ m b. (
+                ⊎-elim (λ x. inl (own m b .0 (inl x)))
+                    (λ (e, x). inr (e, varied-more Q item w i b .0 (inl x))),
+                ⊎-elim
+                    (λ x. ⊎-elim inl (λ y. absurd (other (y .0))) (own m b .1 x))
+                    (λ (e, x). ⊎-elim (λ y. inr (e, y)) (λ y. absurd (varies (y .0))) (varied-more Q item w i b .1 x)),
+              ));
+        }
 
-  row-added : (r : List ℕ) → P i → WithOwner n row (column (entryNumber w i)) (entryTransaction w i) r
-      → OwnersRow n r (Owned column P w (i + 1))
-  row-added r own with-owner =
-      row-same n (λ m b. (has (getD row m 0) b ≡ true) ⊎ ((column (entryNumber w i) ≡ m) × (entryTransaction w i ≡ b)))
-      (Owned column P w (i + 1)) r with-owner
-      (λ m b. (
-        λ x. more m b .0 (⊎-elim (λ y. inl (held .sets m b .0 y)) (λ y. inr (own, y .0, y .1)) x),
-        λ x. ⊎-elim (λ y. inl (held .sets m b .1 y)) (λ y. inr (y .1, y .2)) (more m b .1 x),
-      ))
-
-module _ (w : List ℕ) (i : ℕ) (whole same : List (List ℕ)) (g : Gathered w i whole same) where
-  -- The row of the entries like entry i, which entry p represents.
-  pub row-alike : (p : ℕ) → p < 256 → Representative w i p
-      → Represents (getD same p []) (Owned keyColumn (AlikeByKey w i) w i)
-  row-alike p l r =
-      represents-same (Owned keyColumn (AlikeByKey w p) w i) (Owned keyColumn (AlikeByKey w i) w i) (getD same p [])
-      (g .represented p l (r .first) .sets)
-      (λ m b. (
-        λ (j, n, ((a, k), c, t)). (j, n, ((alike-both w i p j (r .alike) a, k), c, t)),
-        λ (j, n, ((a, k), c, t)). (j, n, ((alike-both w p i j (alike-back w i p (r .alike)) a, k), c, t)),
-      ))
-
-  -- The row of the entries like entry p, with entry i's owner where its key tells something.
-  row-by-key : (p : ℕ) (s : List ℕ) → p < 256 → Representative w i p
-      → WithKeyOwner (getD same p []) (entryNumber w i) (entryTransaction w i) s
-      → OwnersRow 3 s (Owned keyColumn (AlikeByKey w p) w (i + 1))
-  row-by-key p s n by added =
-      let row = g .represented p n (by .first) in
-      split (ltb (keyColumn (entryNumber w i)) 3)
-      (λ (e : ltb (keyColumn (entryNumber w i)) 3 ≡ true).
-      let l = ltb-true (keyColumn (entryNumber w i)) 3 e in
-      row-added 3 keyColumn (AlikeByKey w p) w i (getD same p []) row s (alike-back w i p (by .alike), l)
-      (added .added l))
-      (λ (e : ltb (keyColumn (entryNumber w i)) 3 ≡ false).
-      let l : keyColumn (entryNumber w i) < 3 → ⊥ =
-      λ m. omega (arith, ltb-false (keyColumn (entryNumber w i)) 3 e, m) in
-      rw (added .kept l) (row-kept 3 keyColumn (AlikeByKey w p) w i (getD same p []) row (λ a. l (a .1))))
-
-  pub gathered-more : (t o number p : ℕ) (r s : List ℕ) → EntryRead w i t o number → p < 256 → Representative w i p
-      → WithOwner 5 (getD whole o []) (columnOf number) t r → WithKeyOwner (getD same p []) number t s
-      → Gathered w (i + 1) (set whole o r) (set same p s)
-  gathered-more t o number p r s read n by added added-alike =
-      let own = read .of-object in
-      record {
-        objects = length-set whole o r ∙ g .objects;
-        entries = length-set same p s ∙ g .entries;
-        onObject = λ x m.
-            Cases.same x o
-            (λ (e : x ≡ o).
-            rw (e, getD-set-same whole o r [] (omega (arith, g .objects, read .within)))
-            (row-added 5 columnOf (On w o) w i (getD whole o []) (g .onObject o (read .within)) r (sym own)
-            (rw (read .of-number, read .of-transaction) at added)))
-            (λ (e : x ≡ o → ⊥).
-            rw (getD-set-other whole o x r [] e)
-            (row-kept 5 columnOf (On w x) w i (getD whole x []) (g .onObject x m) (λ h. e (sym h ∙ sym own))));
-        represented = λ j m first.
-            Cases.same j p
-            (λ (e : j ≡ p).
-            rw (e, getD-set-same same p s [] (omega (arith, g .entries)))
-            (row-by-key p s n by (rw (read .of-number, read .of-transaction) at added-alike)))
-            (λ (e : j ≡ p → ⊥).
-            rw (getD-set-other same p j s [] e)
-            (row-kept 3 keyColumn (AlikeByKey w j) w i (getD same j []) (g .represented j m first)
-            (λ a. firsts-apart w j p first (by .first) e (alike-both w j i p (a .0) (by .alike)))));
-      }
+    -- First those who have different ones now, then the owner.
+    pub row-more : (condition : Type 0) (Again : ℕ → Type 0) (t : ℕ) (r s : List ℕ)
+        → ((b : ℕ) → (condition × Again b)
+        ↔ (Q i × (entryTransaction w i ≡ b) × Differing Q item (item i) w i b))
+        → (column (entryNumber w i) < n ↔ P i) → t ≡ entryTransaction w i → Added condition n row place Again r
+        → WithOwner n r (column (entryNumber w i)) t s → OwnersRow n s (Row (i + 1))
+    row-more condition Again t r s varies owns e varied owned =
+        added-row (column (entryNumber w i) < n) n r (column (entryNumber w i)) (λ b. t ≡ b) s
+        (λ m b. Owned column P w i m b ⊎ ((place ≡ m) × Varied Q item w (i + 1) b)) (Row (i + 1))
+        (added-row condition n row place Again r (Row i)
+        (λ m b. Owned column P w i m b ⊎ ((place ≡ m) × Varied Q item w (i + 1) b)) held varied
+        (λ m b. (
+          ⊎-elim (⊎-elim inl (λ (at, x). inr (at, varied-more Q item w i b .0 (inl x))))
+              (λ (c, at, a). inr (at, varied-more Q item w i b .0 (inr (varies b .0 (c, a))))),
+          ⊎-elim (λ x. inl (inl x))
+              (λ (at, x).
+              ⊎-elim (λ y. inl (inr (at, y))) (λ y. let (c, a) = varies b .1 y in inr (c, at, a))
+              (varied-more Q item w i b .1 x)),
+        )))
+        owned
+        (λ m b. (
+          ⊎-elim (⊎-elim (λ x. inl (own m b .0 (inl x))) inr)
+              (λ (c, at, f). inl (own m b .0 (inr (owns .0 c, at, sym e ∙ f)))),
+          ⊎-elim
+              (λ x. ⊎-elim (λ y. inl (inl y)) (λ (p, at, f). inr (owns .1 p, at, e ∙ f)) (own m b .1 x))
+              (λ x. inl (inr x)),
+        ))
 
 -- ---- No entry
 
@@ -111,22 +74,29 @@ abbrev vacant : ℕ → List ℕ
 vacant n = replicate n 0
 
 module _ (w : List ℕ) where
-  row-none : (column : ℕ → ℕ) (P : ℕ → Type 0) (n k j : ℕ) → j < n
-      → OwnersRow k (getD (replicate n (vacant k)) j []) (Owned column P w 0)
-  row-none column P n k j l =
+  row-none : (column : ℕ → ℕ) (P : ℕ → Type 0) (place : ℕ) (Q : ℕ → Type 0) (item : ℕ → ℕ) (n k j : ℕ) → j < n
+      → OwnersRow k (getD (replicate n (vacant k)) j []) (Row column P place Q item w 0)
+  row-none column P place Q item n k j l =
       rw (getD-replicate n j (vacant k) [] l)
       (record {
         columns = length-replicate k 0;
-        sets = blank-row k (Owned column P w 0)
-            (λ m b. some-none (λ j. P j × (column (entryNumber w j) ≡ m) × (entryTransaction w j ≡ b)));
+        sets = blank-row k (Row column P place Q item w 0)
+            (λ m b. ⊎-elim (some-none (λ j. P j × (column (entryNumber w j) ≡ m) × (entryTransaction w j ≡ b)))
+            (λ x. some-none (λ j. Q j × (entryTransaction w j ≡ b) × Differing Q item (item j) w 0 b) (x .1)));
       })
 
-  pub gathered-none : (n m : ℕ) → n ≡ 16 → m ≡ 256
-      → Gathered w 0 (replicate n (vacant 5)) (replicate m (vacant 3))
-  gathered-none n m e f =
+  pub gathered-none : (n m k : ℕ) → n ≡ 16 → m ≡ 256 → k ≡ 256
+      → Gathered w 0 (replicate n (vacant 6)) (replicate m (vacant 4)) (replicate k 0)
+  gathered-none n m k e f g =
       record {
-        objects = length-replicate n (vacant 5) ∙ e;
-        entries = length-replicate m (vacant 3) ∙ f;
-        onObject = λ o l. row-none columnOf (On w o) n 5 o (omega arith);
-        represented = λ j l first. row-none keyColumn (AlikeByKey w j) m 3 j (omega arith);
+        objects = length-replicate n (vacant 6) ∙ e;
+        entries = length-replicate m (vacant 4) ∙ f;
+        values = length-replicate k 0 ∙ g;
+        onObject = λ o l. row-none columnOf (On w o) 5 (Pushes w o) (entryKey w) n 6 o (omega arith);
+        represented = λ j l first.
+            row-none keyColumn (AlikeByKey w j) 3 (Modifies w j) (entryValue w) m 4 j (omega arith);
+        twins = λ j l number first.
+            rw (blank k j)
+            (holds-none (Owner (AlikeBy true w j) w 0)
+            (λ b. some-none (λ i. AlikeBy true w j i × (entryTransaction w i ≡ b))));
       }

@@ -1,8 +1,8 @@
 -- Some number below another, and rows of sets by the relations that tell their members.
 use Prim.Native.Nat.{ℕ, zero, suc, _+_, _<_}
 use mathlib.Core.Path.{_≡_, refl, sym, subst, _∙_}
-use mathlib.Core.Bool.{true, _||_}
-use mathlib.Core.Logic.{_↔_, _⊎_, inl, inr, ⊎-elim}
+use mathlib.Core.Bool.{_||_}
+use mathlib.Core.Logic.{_↔_, _⊎_, inl, inr, ⊎-elim, Iff·rfl}
 use mathlib.Core.List.{List}
 use native.Mathlib.Omega.{arith}
 use borrow.Author.Tests.{eqb-true, eq-eqb}
@@ -10,9 +10,9 @@ use lib.Dec.{eqb}
 use lib.ListN.{getD, set, length, replicate, length-set}
 use lib.Seq.{getD-set-same, getD-set-other}
 use Rattle.operations.specs.Laws.Cases.{same}
-use Rattle.bitset.specs.Bitset.{has, Members, Holds, Represents}
+use Rattle.bitset.specs.Bitset.{has, Members, In, Holds, Represents}
 use Rattle.bitset.specs.Laws.{holds-none, holds-same, holds-join}
-use Rattle.dependencies.specs.Dependencies.{Some, WithOwner}
+use Rattle.dependencies.specs.Dependencies.{Some, OwnersRow, Added}
 
 -- ---- Some number below n
 
@@ -35,7 +35,7 @@ pub represents-same : (R S : ℕ → ℕ → Type 0) (row : List ℕ) → Repres
 represents-same R S row r e a = holds-same (R a) (S a) (getD row a 0) (r a) (e a)
 
 -- Empty sets.
-blank : (n a : ℕ) → getD {A = ℕ} (replicate n 0) a 0 ≡ 0
+pub blank : (n a : ℕ) → getD {A = ℕ} (replicate n 0) a 0 ≡ 0
 blank zero a = refl
 blank (suc n) zero = refl
 blank (suc n) (suc a) = blank n a
@@ -58,12 +58,40 @@ represents-join R Q row t s u r q l m a =
     (holds-same (R a) (λ b. R a b ⊎ ((t ≡ a) × Q b)) (getD row a 0) (r a)
     (λ b. (inl, ⊎-elim (λ x. x) (λ x. absurd (e (sym (x .0))))))))
 
-pub with-owner : (n : ℕ) (row : List ℕ) (m t s u : ℕ) → length row ≡ n → m < n → Members s (λ b. eqb b t)
-    → Members u (λ b. has (getD row m 0) b || has s b) → WithOwner n row m t (set row m u)
-with-owner n row m t s u columns l single joined =
+-- Members added to one set of a row, where the condition holds, and where it does not.
+module _ (condition : Type 0) (n : ℕ) (row : List ℕ) (m : ℕ) (Q : ℕ → Type 0) (columns : length row ≡ n) where
+  pub added : (s u : ℕ) → condition → m < n → Holds s Q → Members u (λ b. has (getD row m 0) b || has s b)
+      → Added condition n row m Q (set row m u)
+  added s u holds l q joined =
+      record {
+        columns = length-set row m u ∙ columns;
+        sets = represents-same (λ k b. In (getD row k 0) b ⊎ ((m ≡ k) × Q b))
+            (λ k b. In (getD row k 0) b ⊎ (condition × (m ≡ k) × Q b)) (set row m u)
+            (represents-join (λ k b. In (getD row k 0) b) Q row m s u (λ k b. Iff·rfl) q (omega arith) joined)
+            (λ k b. (⊎-elim inl (λ x. inr (holds, x .0, x .1)), ⊎-elim inl (λ x. inr (x .1, x .2))));
+      }
+
+  pub not-added : (condition → ⊥) → Added condition n row m Q row
+  not-added other =
+      record {
+        columns = columns;
+        sets = λ k b. (inl, ⊎-elim (λ x. x) (λ x. absurd (other (x .0))));
+      }
+
+-- A set of one, by the transaction's equation.
+pub one-owner : (s t : ℕ) → Members s (λ b. eqb b t) → Holds s (λ b. t ≡ b)
+one-owner s t single b = (λ e. sym (eqb-true b t (sym (single b) ∙ e)), λ e. single b ∙ eq-eqb b t (sym e))
+
+-- What a row holds with more members.
+pub added-row : (condition : Type 0) (n : ℕ) (row : List ℕ) (m : ℕ) (Q : ℕ → Type 0) (r : List ℕ)
+    (R S : ℕ → ℕ → Type 0) → OwnersRow n row R → Added condition n row m Q r
+    → ((k b : ℕ) → (R k b ⊎ (condition × (m ≡ k) × Q b)) ↔ S k b) → OwnersRow n r S
+added-row condition n row m Q r R S held more same =
     record {
-      columns = length-set row m u ∙ columns;
-      sets = represents-join (λ n b. has (getD row n 0) b ≡ true) (λ b. t ≡ b) row m s u (λ n b. (λ e. e, λ e. e))
-          (λ b. (λ e. sym (eqb-true b t (sym (single b) ∙ e)), λ e. single b ∙ eq-eqb b t (sym e))) (omega arith)
-          joined;
+      columns = more .columns;
+      sets = represents-same (λ k b. In (getD row k 0) b ⊎ (condition × (m ≡ k) × Q b)) S r (more .sets)
+          (λ k b. (
+            λ x. same k b .0 (⊎-elim (λ y. inl (held .sets k b .0 y)) inr x),
+            λ x. ⊎-elim (λ y. inl (held .sets k b .1 y)) inr (same k b .1 x),
+          ));
     }

@@ -1,7 +1,7 @@
 -- Case analysis on a test, on two numbers and on a key; what an answer says; laws of `All` and of lists.
 use Prim.Native.Nat.{ℕ, zero, suc}
 use mathlib.Core.Path.{_≡_, refl, sym, ap, _∙_, subst}
-use mathlib.Core.Bool.{Bool, true, false, true≢false}
+use mathlib.Core.Bool.{Bool, true, false, _||_, true≢false}
 use mathlib.Core.Logic.{_↔_}
 use mathlib.Core.List.{List, [], _∷_, _++_, map}
 use borrow.Author.Tests.{eqb-true, eqb-false}
@@ -13,6 +13,10 @@ use Rattle.operations.specs.Log.{filter}
 pub split : {A : Type 0} (b : Bool) → (b ≡ true → A) → (b ≡ false → A) → A
 split true f g = f refl
 split false f g = g refl
+
+pub either : {A : Type 0} (b : Bool) {c : Bool} → b || c ≡ true → (b ≡ true → A) → (c ≡ true → A) → A
+either true e f g = f refl
+either false e f g = g e
 
 pub same : {A : Type 0} (j k : ℕ) → (j ≡ k → A) → ((j ≡ k → ⊥) → A) → A
 same j k equal other =

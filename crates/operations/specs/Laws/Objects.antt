@@ -1,21 +1,25 @@
 -- Stacks, sets and tables are object types: the laws of `Log`, for an object of each kind.
 use Prim.Native.Nat.{ℕ}
-use mathlib.Core.Path.{_≡_, sym, ap, _∙_, subst}
-use mathlib.Core.Bool.{true}
+use mathlib.Core.Path.{_≡_, refl, sym, ap, _∙_, subst}
+use mathlib.Core.Bool.{true, not, _&&_, false≢true}
 use mathlib.Core.List.{List}
 use native.Mathlib.Omega.{arith}
-use Rattle.operations.specs.Operations.{Kind, Stack, Set, Table, Row, Answer, StackOperation, SetOperation}
-use Rattle.operations.specs.Operations.{TableOperation, Operation, onStack, onSet, onTable, kindOf, next, answer}
-use Rattle.operations.specs.Operations.{WellFormed, StoredKey, Fits}
+use lib.Dec.{eqb}
+use Rattle.operations.specs.Operations.{Kind, Stack, Set, Table, Row, Answer, StackOperation, push, pop, top}
+use Rattle.operations.specs.Operations.{SetOperation, setInsert, setDelete, member, TableOperation, tableInsert}
+use Rattle.operations.specs.Operations.{tableDelete, lookup, size, modify, Operation, onStack, onSet, onTable}
+use Rattle.operations.specs.Operations.{kindOf, numberOf, keyOf, next, answer, WellFormed, StoredKey, Fits}
 use Rattle.operations.specs.PairRules.{firstNumber, recoverable, commutes}
+use Rattle.operations.specs.Laws.Cases.{either}
 use Rattle.operations.specs.Laws.ObjectTypes.{ObjectType}
 use Rattle.operations.specs.Laws.Stacks.{StackView, stackView, stack-valid, stack-answer, stack-view-next}
-use Rattle.operations.specs.Laws.Stacks.{stack-view-recoverable, stack-commutes}
+use Rattle.operations.specs.Laws.Stacks.{stack-view-recoverable}
 use Rattle.operations.specs.Laws.Sets.{SetView, setView, set-values, set-reduced, set-ascending, set-answer}
-use Rattle.operations.specs.Laws.Sets.{set-view-next, set-view-recoverable, set-commutes}
-use Rattle.operations.specs.Laws.Grid.{commuting-mutual}
+use Rattle.operations.specs.Laws.Sets.{set-view-next, set-view-recoverable, set-apart}
+use Rattle.operations.specs.Laws.Grid.{reading, keyed, commuting-mutual, commuting-unordered}
 use Rattle.operations.specs.Laws.Tables.{TableView, tableView, next-ascending, next-reduced, table-answer}
-use Rattle.operations.specs.Laws.Tables.{table-view-next, table-view-recoverable, table-commutes}
+use Rattle.operations.specs.Laws.Tables.{table-view-next, table-view-recoverable, apart-commutes, differ}
+use Rattle.operations.specs.Laws.Storing.{one-operation}
 
 -- ---- By the kind of one operation, and of two
 
@@ -57,6 +61,21 @@ view (onStack o) rs = stackView o rs
 view (onSet o) rs = setView o rs
 view (onTable o) rs = tableView o rs
 
+-- ---- Either order
+
+kept-by : (o : Operation) → reading (numberOf o) ≡ true → (rs : List Row) → next o rs ≡ rs
+kept-by (onStack (push x)) e rs = absurd (false≢true e)
+kept-by (onStack pop) e rs = absurd (false≢true e)
+kept-by (onStack top) e rs = refl
+kept-by (onSet (setInsert k)) e rs = absurd (false≢true e)
+kept-by (onSet (setDelete k)) e rs = absurd (false≢true e)
+kept-by (onSet (member k)) e rs = refl
+kept-by (onTable (tableInsert k v)) e rs = absurd (false≢true e)
+kept-by (onTable (tableDelete k)) e rs = absurd (false≢true e)
+kept-by (onTable (lookup k)) e rs = refl
+kept-by (onTable size) e rs = refl
+kept-by (onTable (modify k v)) e rs = absurd (false≢true e)
+
 module _ (reduce : ℕ → ℕ) (kind : Kind) where
   pub valid-next : (o : Operation) (rs : List Row) → Fits reduce kind o → WellFormed reduce kind rs
       → WellFormed reduce kind (next o rs)
@@ -97,14 +116,27 @@ module _ (reduce : ℕ → ℕ) (kind : Kind) where
         (λ q r v. table-view-recoverable q r s (v .1)) kind o p
         (f .0) (g .0)
 
+    -- whose keys differ, of a set or a table
+    apart-next : (s : List Row) → Fits reduce kind o → Fits reduce kind p → WellFormed reduce kind s
+        → keyed kind && not (eqb (keyOf o) (keyOf p)) ≡ true → next o (next p s) ≡ next p (next o s)
+    apart-next s f g =
+        byKinds (λ (k : Kind) (q r : Operation). WellFormed reduce k s → keyed k && not (eqb (keyOf q) (keyOf r)) ≡ true
+        → next q (next r s) ≡ next r (next q s))
+        (λ q r v e. absurd (false≢true e)) (λ q r v e. set-apart q r s (differ _ _ e) (v .2))
+        (λ q r v e. apart-commutes q r s (differ _ _ e) (v .1)) kind o p (f .0) (g .0)
+
     pub next-commutes : (s : List Row) → Fits reduce kind o → Fits reduce kind p → WellFormed reduce kind s
         → commutes o p ≡ true
         → next o (next p s) ≡ next p (next o s)
-    next-commutes s f g =
-        byKinds (λ (k : Kind) (q r : Operation). WellFormed reduce k s → commutes q r ≡ true
-        → next q (next r s) ≡ next r (next q s))
-        (λ q r v. stack-commutes q r s) (λ q r v. set-commutes q r s (v .2)) (λ q r v. table-commutes q r s (v .1))
-        kind o p (f .0) (g .0)
+    next-commutes s f g v e =
+        either (reading (numberOf o)) (commuting-unordered o p (g .0 ∙ sym (f .0)) e)
+        (λ reads. kept-by o reads (next p s) ∙ sym (ap (next p) (kept-by o reads s)))
+        (λ rest.
+        either (reading (numberOf p)) rest
+        (λ reads. ap (next o) (kept-by p reads s) ∙ sym (kept-by p reads (next o s)))
+        (λ rest.
+        either (keyed (kindOf o) && not (eqb (keyOf o) (keyOf p))) rest
+        (λ apart. apart-next s f g v (rw (f .0) at apart)) (λ same. rw (one-operation o p same))))
 
     pub recoverable-commutes : Fits reduce kind o → Fits reduce kind p → commutes o p ≡ true
         → (recoverable o p ≡ true) × (recoverable p o ≡ true)

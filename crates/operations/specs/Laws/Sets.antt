@@ -1,14 +1,13 @@
 -- Sets, whose operations are a table's on rows with value 0.
 use Prim.Native.Nat.{ℕ, _-_}
-use mathlib.Core.Path.{_≡_, refl, ap}
+use mathlib.Core.Path.{_≡_, refl, sym, ap, _∙_}
 use mathlib.Core.Bool.{Bool, true}
 use mathlib.Core.List.{List}
 use Rattle.operations.specs.Operations.{Row, SetOperation, setInsert, setDelete, member, tableInsert, tableDelete}
-use Rattle.operations.specs.Operations.{lookup, TableOperation, Operation, onSet, numberOf, keyOf, present}
-use Rattle.operations.specs.Operations.{isSome, setNext, tableNext, setAnswer, flag, All, NoValue, Reduced}
-use Rattle.operations.specs.Operations.{KeyReduced, Ascending}
-use Rattle.operations.specs.PairRules.{allows, ruleAt, setRecoverable, recoverable, commutes}
-use Rattle.operations.specs.Laws.Cases.{by-key}
+use Rattle.operations.specs.Operations.{lookup, TableOperation, Operation, onSet, onTable, numberOf, keyOf}
+use Rattle.operations.specs.Operations.{present, isSome, setNext, tableNext, setAnswer, flag, All, NoValue}
+use Rattle.operations.specs.Operations.{Reduced, KeyReduced, Ascending}
+use Rattle.operations.specs.PairRules.{allows, ruleAt, setRecoverable, recoverable}
 use Rattle.operations.specs.Laws.Rows.{kept, dropped, alter-all, inserted-alters, deleted-alters}
 use Rattle.operations.specs.Laws.Tables.{next-ascending, next-reduced, present-next, found-other, apart-commutes}
 use Rattle.operations.specs.Laws.Tables.{differ}
@@ -77,15 +76,14 @@ set-view-recoverable (setInsert k) p rs a e = refl
 set-view-recoverable (setDelete k) p rs a e = member-kept (onSet (setDelete k)) p rs a e
 set-view-recoverable (member k) p rs a e = member-kept (onSet (member k)) p rs a e
 
-pub set-commutes : (o p : SetOperation) (rs : List Row) → Ascending rs → commutes (onSet o) (onSet p) ≡ true
+key-as-table : (o : SetOperation) → keyOf (onTable (asTable o)) ≡ keyOf (onSet o)
+key-as-table (setInsert k) = refl
+key-as-table (setDelete k) = refl
+key-as-table (member k) = refl
+
+pub set-apart : (o p : SetOperation) (rs : List Row) → (keyOf (onSet o) ≡ keyOf (onSet p) → ⊥) → Ascending rs
     → setNext o (setNext p rs) ≡ setNext p (setNext o rs)
-set-commutes (setInsert j) (setInsert k) rs a e =
-    by-key (λ (i : ℕ). setNext (setInsert i) (setNext (setInsert k) rs)
-    ≡ setNext (setInsert k) (setNext (setInsert i) rs)) j k refl
-    (λ n. apart-commutes (tableInsert j 0) (tableInsert k 0) rs n a)
-set-commutes (setInsert j) (setDelete k) rs a e = apart-commutes (tableInsert j 0) (tableDelete k) rs (differ j k e) a
-set-commutes (setInsert j) (member k) rs a e = refl
-set-commutes (setDelete j) (setInsert k) rs a e = apart-commutes (tableDelete j) (tableInsert k 0) rs (differ j k e) a
-set-commutes (setDelete j) (setDelete k) rs a e = apart-commutes (tableDelete j) (tableDelete k) rs (differ j k e) a
-set-commutes (setDelete j) (member k) rs a e = refl
-set-commutes (member j) p rs a e = refl
+set-apart o p rs n a =
+    ap (setNext o) (next-as-table p rs) ∙ next-as-table o (tableNext (asTable p) rs)
+    ∙ apart-commutes (asTable o) (asTable p) rs (rw (key-as-table o, key-as-table p) n) a
+    ∙ sym (ap (setNext p) (next-as-table o rs) ∙ next-as-table p (tableNext (asTable o) rs))

@@ -10,7 +10,7 @@ use lib.ListN.{length, getD, take, length-append}
 use lib.Seq.{getD-append-seam, take-at}
 use Rattle.operations.specs.Operations.{Row, row, StackOperation, push, pop, top, Operation, onStack, numberOf}
 use Rattle.operations.specs.Operations.{stackNext, stackAnswer, topItem, valued, All, NoValue}
-use Rattle.operations.specs.PairRules.{allows, ruleAt, stackRecoverable, stackCommuting, recoverable, commutes}
+use Rattle.operations.specs.PairRules.{allows, ruleAt, stackRecoverable, recoverable}
 use Rattle.operations.specs.Laws.Cases.{all-append}
 
 -- ---- Last in, first out
@@ -73,16 +73,3 @@ pub stack-view-recoverable : (o p : StackOperation) (rs : List Row) → recovera
 stack-view-recoverable (push x) p rs e = refl
 stack-view-recoverable pop p rs e = rows-kept (onStack pop) p rs e
 stack-view-recoverable top p rs e = rows-kept (onStack top) p rs e
-
--- nothing commutes with a push or a pop
-never-commutes : (o : Operation) (p : StackOperation)
-    → allows (ruleAt stackCommuting 0 (numberOf (onStack p) - 1)) o (onStack p) ≡ true → ⊥
-never-commutes o (push x) e = false≢true e
-never-commutes o pop e = false≢true e
-never-commutes o top e = false≢true e
-
-pub stack-commutes : (o p : StackOperation) (rs : List Row) → commutes (onStack o) (onStack p) ≡ true
-    → stackNext o (stackNext p rs) ≡ stackNext p (stackNext o rs)
-stack-commutes (push x) p rs e = absurd (never-commutes (onStack (push x)) p e)
-stack-commutes pop p rs e = absurd (never-commutes (onStack pop) p e)
-stack-commutes top p rs e = refl

@@ -1,10 +1,13 @@
 -- Arguments are stored once: what is stored fits, and is read back as it is.
 use Prim.Native.Nat.{ℕ, zero, suc, _<_}
-use mathlib.Core.Path.{_≡_, refl, subst}
+use mathlib.Core.Path.{_≡_, refl, sym, subst, _∙_}
+use mathlib.Core.Bool.{true, _&&_, and-eq-true-iff}
 use mathlib.Core.Logic.{_↔_}
-use mathlib.Core.Option.{none, some, Option·none-ne-some}
+use mathlib.Core.Option.{none, some, Option·none-ne-some, Option·some-injective}
 use mathlib.Core.List.{List, [], _∷_, map}
 use native.Mathlib.Omega.{arith}
+use borrow.Author.Tests.{eqb-true}
+use lib.Dec.{eqb}
 use lib.ListN.{getD}
 use Rattle.operations.specs.Operations.{push, pop, top, setInsert, setDelete, member, tableInsert, tableDelete}
 use Rattle.operations.specs.Operations.{lookup, size, modify, Operation, onStack, onSet, onTable}
@@ -48,3 +51,23 @@ read-back (onTable (tableDelete k)) = refl
 read-back (onTable (lookup k)) = refl
 read-back (onTable size) = refl
 read-back (onTable (modify k v)) = refl
+
+-- It is the one that its number names,
+pub named : (o q : Operation) (number : ℕ) → eqb (numberOf o) number ≡ true
+    → stored (λ k. k) number (keyOf o) (valueOf o) ≡ some q → q ≡ o
+named o q number e known =
+    Option·some-injective q o (sym known ∙ (rw (eqb-true (numberOf o) number e) at (read-back o)))
+
+-- and one with another that has the same number, key and value.
+pub one-operation : (o p : Operation)
+    → eqb (numberOf o) (numberOf p) && (eqb (keyOf o) (keyOf p) && eqb (valueOf o) (valueOf p)) ≡ true → o ≡ p
+one-operation o p e =
+    let (number, rest) = and-eq-true-iff (eqb (numberOf o) (numberOf p)) _ .0 e in
+    let (key, value) = and-eq-true-iff (eqb (keyOf o) (keyOf p)) _ .0 rest in
+    Option·some-injective o p
+    (sym (read-back o)
+    ∙ (rw (
+      eqb-true (numberOf o) (numberOf p) number,
+      eqb-true (keyOf o) (keyOf p) key,
+      eqb-true (valueOf o) (valueOf p) value,
+    ) (read-back p)))

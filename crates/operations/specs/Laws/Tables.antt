@@ -3,16 +3,14 @@ use Prim.Native.Nat.{ℕ, _-_}
 use mathlib.Core.Path.{_≡_, refl, sym, ap, _∙_, fun-ext}
 use mathlib.Core.Bool.{Bool, true, false, not, false≢true}
 use mathlib.Core.Option.{Option, none, some}
-use mathlib.Core.List.{List, [], _∷_}
+use mathlib.Core.List.{List}
 use borrow.Author.Tests.{eqb-false, not-true}
 use lib.Dec.{eqb}
-use lib.ListN.{getD}
 use Rattle.operations.specs.Operations.{Row, TableOperation, tableInsert, tableDelete, lookup, size, modify}
 use Rattle.operations.specs.Operations.{Operation, onTable, numberOf, keyOf, found, isSome, present, modified}
 use Rattle.operations.specs.Operations.{tableNext, tableAnswer, answering, flag, valued, All, Reduced, KeyReduced}
 use Rattle.operations.specs.Operations.{Ascending}
-use Rattle.operations.specs.PairRules.{Rule, never, apart, allows, ruleAt, tableRecoverable, recoverable}
-use Rattle.operations.specs.PairRules.{commutes}
+use Rattle.operations.specs.PairRules.{allows, ruleAt, tableRecoverable, recoverable}
 use Rattle.operations.specs.Laws.Cases.{by-key}
 use Rattle.operations.specs.Laws.Rows.{alter, kept, dropped, replaced, inserted-alters, deleted-alters}
 use Rattle.operations.specs.Laws.Rows.{modified-alters, unchanged-alters, alter-at, alter-apart, alter-all}
@@ -177,22 +175,3 @@ table-view-recoverable (tableDelete k) p rs a e = present-kept (onTable (tableDe
 table-view-recoverable (lookup k) p rs a e = found-kept (onTable (lookup k)) p rs a e
 table-view-recoverable size p rs a e = fun-ext (λ j. keys-kept (onTable size) p j rs a e)
 table-view-recoverable (modify k v) p rs a e = present-kept (onTable (modify k v)) p rs a e
-
--- insert, delete and modify commute with what reads, and with a change of another key
-change-commutes : (atSize : Rule) (o p : TableOperation) (rs : List Row) → Ascending rs
-    → allows (getD (apart ∷ apart ∷ apart ∷ atSize ∷ apart ∷ []) (numberOf (onTable p) - 7) never) (onTable o)
-    (onTable p) ≡ true
-    → tableNext o (tableNext p rs) ≡ tableNext p (tableNext o rs)
-change-commutes atSize o (tableInsert k v) rs a e = apart-commutes o (tableInsert k v) rs (differ (tableKey o) k e) a
-change-commutes atSize o (tableDelete k) rs a e = apart-commutes o (tableDelete k) rs (differ (tableKey o) k e) a
-change-commutes atSize o (lookup k) rs a e = refl
-change-commutes atSize o size rs a e = refl
-change-commutes atSize o (modify k v) rs a e = apart-commutes o (modify k v) rs (differ (tableKey o) k e) a
-
-pub table-commutes : (o p : TableOperation) (rs : List Row) → Ascending rs → commutes (onTable o) (onTable p) ≡ true
-    → tableNext o (tableNext p rs) ≡ tableNext p (tableNext o rs)
-table-commutes (tableInsert k v) p rs a e = change-commutes never (tableInsert k v) p rs a e
-table-commutes (tableDelete k) p rs a e = change-commutes never (tableDelete k) p rs a e
-table-commutes (lookup k) p rs a e = refl
-table-commutes size p rs a e = refl
-table-commutes (modify k v) p rs a e = change-commutes Rule.always (modify k v) p rs a e

@@ -1,22 +1,27 @@
--- Where the recoverable tables say no: a state of at most one row that shows it.
-use Prim.Native.Nat.{ℕ, _-_, _<_, _^_}
-use mathlib.Core.Path.{_≡_, refl, ap}
-use mathlib.Core.Bool.{Bool, true, false, not, true≢false}
+-- Where the tables say no: a state of at most one row that shows it.
+use Prim.Native.Nat.{ℕ, _-_, _≤_, _<_, _^_}
+use mathlib.Core.Path.{_≡_, refl, sym, ap, subst₂, _∙_}
+use mathlib.Core.Bool.{Bool, true, false, not, cond, and-eq-true-iff, true≢false}
 use mathlib.Core.Option.{none, some}
 use mathlib.Core.List.{List, [], _∷_}
 use native.Mathlib.Omega.{arith}
 use borrow.Author.Tests.{eqb-true, not-false}
 use lib.Dec.{eqb}
-use lib.ListN.{length}
+use lib.ListN.{length, getD}
 use Rattle.operations.specs.Operations.{Kind, Stack, Set, Table, Row, row, Answer, flag, valued, answering}
 use Rattle.operations.specs.Operations.{topItem, StackOperation, push, pop, top, SetOperation, setInsert}
 use Rattle.operations.specs.Operations.{setDelete, member, TableOperation, tableInsert, tableDelete, lookup, size}
 use Rattle.operations.specs.Operations.{modify, Operation, onStack, onSet, onTable, kindOf, numberOf, keyOf}
+use Rattle.operations.specs.Operations.{valueOf}
 use Rattle.operations.specs.Operations.{found, present, stackNext, stackAnswer, setNext, setAnswer, tableNext}
 use Rattle.operations.specs.Operations.{tableAnswer, next, answer, WellFormed, Holdable, StoredKey, Fits}
 use Rattle.operations.specs.PairRules.{allows, ruleAt, stackRecoverable, setRecoverable, tableRecoverable}
-use Rattle.operations.specs.PairRules.{recoverable}
+use Rattle.operations.specs.PairRules.{recoverable, commutes, rewrites, EitherOrder}
+use Rattle.operations.specs.Laws.Cases.{split, either}
+use Rattle.operations.specs.Laws.Storing.{named}
 use Rattle.operations.specs.Laws.Rows.{byOrder-equal}
+use Rattle.operations.specs.Laws.Tables.{differ}
+use Rattle.operations.specs.Laws.Grid.{commuting-mutual}
 use Rattle.operations.specs.Laws.Objects.{byKind, byKinds}
 
 -- The state that shows a no against the logged operation: empty, or one row that it takes away or changes.
@@ -33,7 +38,7 @@ witness (onTable (lookup k)) = []
 witness (onTable size) = []
 witness (onTable (modify k v)) = row k (1 - v) ∷ []
 
-pub witness-holdable : (p : Operation) → keyOf p < 2 ^ 32 → Holdable (witness p)
+pub witness-holdable : (p : Operation) → keyOf p < 2 ^ 32 → (length (witness p) ≤ 1) × Holdable (witness p)
 witness-holdable (onStack (push x)) h = omega arith
 witness-holdable (onStack pop) h = omega arith
 witness-holdable (onStack top) h = omega arith
@@ -169,3 +174,66 @@ pub witness-differs : (kind : Kind) (o p : Operation) → kindOf o ≡ kind → 
 witness-differs =
     byKinds (λ (k : Kind) (q r : Operation). recoverable q r ≡ false
     → Differ (answer q (next r (witness r))) (answer q (witness r))) stack-no set-no table-no
+
+-- ---- Where the commuting tables say no
+
+-- The state that shows it: where one of the two is not recoverable against the other, that of the other.
+abbrev pub orderWitness : Operation → Operation → List Row
+orderWitness o p = cond (recoverable p o) (witness p) (witness o)
+
+-- two pushes of different items, from an empty stack
+pushes-differ : (x y : ℕ) → (x ≡ y → ⊥)
+    → stackNext (push x) (stackNext (push y) []) ≡ stackNext (push y) (stackNext (push x) []) → ⊥
+pushes-differ x y n e = n (sym (ap (λ (rs : List Row). getD rs 0 (row 0 0) .key) e))
+
+-- two modifies of one key with different values, from a table that has it
+modifies-differ : (k v w r : ℕ) → (v ≡ w → ⊥)
+    → tableNext (modify k v) (tableNext (modify k w) (row k r ∷ []))
+    ≡ tableNext (modify k w) (tableNext (modify k v) (row k r ∷ [])) → ⊥
+modifies-differ k v w r n e = n (ap (λ (rs : List Row). getD rs 0 (row 0 0) .value) (simp byOrder-equal at e))
+
+abbrev RowsDiffer : Operation → Operation → Type 0
+RowsDiffer o p = next o (next p (witness p)) ≡ next p (next o (witness p)) → ⊥
+
+rewritten : (o p : Operation) → rewrites o p ≡ true → RowsDiffer o p
+rewritten o p e =
+    either _ e
+    (λ pushes.
+    let (first, rest) = and-eq-true-iff (eqb (numberOf o) 1) _ .0 pushes in
+    let (second, items) = and-eq-true-iff (eqb (numberOf p) 1) _ .0 rest in
+    subst₂ RowsDiffer (named o _ 1 first refl) (named p _ 1 second refl)
+    (pushes-differ (keyOf o) (keyOf p) (differ _ _ items)))
+    (λ modifies.
+    let (first, rest) = and-eq-true-iff (eqb (numberOf o) 11) _ .0 modifies in
+    let (second, at) = and-eq-true-iff (eqb (numberOf p) 11) _ .0 rest in
+    let (key, values) = and-eq-true-iff (eqb (keyOf o) (keyOf p)) _ .0 at in
+    subst₂ RowsDiffer
+    (ap (λ (k : ℕ). onTable (modify k (valueOf o))) (sym (eqb-true (keyOf o) (keyOf p) key))
+    ∙ named o _ 11 first refl)
+    (named p _ 11 second refl)
+    (modifies-differ (keyOf p) (valueOf o) (valueOf p) (1 - valueOf p) (differ _ _ values)))
+
+pub order-differs : (kind : Kind) (o p : Operation) → kindOf o ≡ kind → kindOf p ≡ kind → commutes o p ≡ false
+    → EitherOrder o p (orderWitness o p) → ⊥
+order-differs kind o p k l e same =
+    split (recoverable p o)
+    (λ (r : recoverable p o ≡ true).
+    let at-witness : EitherOrder o p (witness p) = rw r at same in
+    split (recoverable o p)
+    (λ (q : recoverable o p ≡ true).
+    split (rewrites o p) (λ (f : rewrites o p ≡ true). rewritten o p f (at-witness .0))
+    (λ (f : rewrites o p ≡ false). true≢false (sym (commuting-mutual o p (l ∙ sym k) .1 (q, r, f)) ∙ e)))
+    (λ (q : recoverable o p ≡ false). witness-differs kind o p k l q (at-witness .1)))
+    (λ (r : recoverable p o ≡ false). witness-differs kind p o l k r ((rw r at same) .2))
+
+pub order-valid : (reduce : ℕ → ℕ) (kind : Kind) (o p : Operation) → Fits reduce kind o → Fits reduce kind p
+    → WellFormed reduce kind (orderWitness o p)
+order-valid reduce kind o p fo fp =
+    split (recoverable p o) (λ (r : recoverable p o ≡ true). rw r (witness-valid reduce kind p fp))
+    (λ (r : recoverable p o ≡ false). rw r (witness-valid reduce kind o fo))
+
+pub order-holdable : (o p : Operation) → keyOf o < 2 ^ 32 → keyOf p < 2 ^ 32
+    → (length (orderWitness o p) ≤ 1) × Holdable (orderWitness o p)
+order-holdable o p l m =
+    split (recoverable p o) (λ (r : recoverable p o ≡ true). rw r (witness-holdable p m))
+    (λ (r : recoverable p o ≡ false). rw r (witness-holdable o l))

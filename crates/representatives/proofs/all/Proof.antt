@@ -1,6 +1,7 @@
 -- `representatives::all`: the representatives of the entries passed, and the chains by which the next is found.
 use Prim.Native.Nat.{_-_, _≤_, _<_}
 use mathlib.Core.Path.{_≡_, refl, sym, _∙_}
+use mathlib.Core.Bool.{false}
 use native.Mathlib.Omega.{arith}
 use Rattle.store.specs.Layout.{word}
 use Rattle.representatives.specs.Representatives.{InLog, Represented, Chained}
@@ -12,7 +13,7 @@ use Rattle.representatives.proofs.all.Tie as tie
 
 abbrev Inv-loop : tie.InvT-loop
 Inv-loop book count found₀ heads₀ links₀ i₀ found heads links i =
-    (i ≤ word book 0) × Represented book i found × Chained book i heads links
+    (i ≤ word book 0) × Represented book i found × Chained false book i heads links
 
 abbrev μ-loop : tie.MeasureT-loop
 μ-loop book count found₀ heads₀ links₀ i₀ found heads links i = word book 0 - i
@@ -26,7 +27,7 @@ returns c = represented-none _ _ 256 (sym (c .before .entry-count .ensures) ∙ 
 loop-holds : tie.Need-loop-holds Inv-loop μ-loop
 loop-holds c =
     let book = c .before .before .before .args .book .now in
-    (omega arith, represented-none book 0 256 refl refl, chained-none book 256 257 refl refl)
+    (omega arith, represented-none book 0 256 refl refl, chained-none false book 256 257 refl refl)
 
 abbrev start-of : tie.In-loop Inv-loop μ-loop → tie.Start Inv-loop μ-loop
 start-of c = c .before .before .before .before .before
@@ -46,7 +47,7 @@ below : (c : tie.After-represent Inv-loop μ-loop) → c .before .before .before
 below c = let l = inside (turned c) in omega (arith, l .1, l .0 .entries)
 
 represent-requires : tie.Need-represent-requires Inv-loop μ-loop
-represent-requires c κs = let turn = c .before .before in (inside turn, turn .before .loop .inv .2)
+represent-requires c κs = let turn = c .before .before in (inside turn, tt, turn .before .loop .inv .2)
 
 loop-again : tie.Need-loop-again Inv-loop μ-loop
 loop-again c =

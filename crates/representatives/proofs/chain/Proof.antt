@@ -8,8 +8,9 @@ use Rattle.representatives.proofs.chain.Tie as tie
 returns : tie.Need-returns
 returns c =
     let start = c .before .before .before in
-    chained-more _ (start .args .i) _ _ (start .pre .2) _ (c .before .slot .ensures .0) (c .before .slot .ensures .1)
-    (omega (arith, start .pre .0 .0 .entries, start .pre .0 .1)) (start .pre .1)
+    let slot = c .before .slot .ensures in
+    chained-more _ _ (start .args .i) _ _ (start .pre .3) _ (slot .0) (slot .1)
+    (omega (arith, start .pre .0 .0 .entries, start .pre .0 .1)) (start .pre .1) (start .pre .2)
 
 pub chain-spec : {M : Type 1} → statement M
 chain-spec =

@@ -9,15 +9,15 @@ use Rattle.representatives.proofs.find.Statement.{statement}
 use Rattle.representatives.proofs.find.Tie as tie
 
 abbrev Inv-loop : tie.InvT-loop
-Inv-loop book i heads links at₀ at = Way book i at
+Inv-loop book i valued heads links at₀ at = Way valued book i at
 
 abbrev μ-loop : tie.MeasureT-loop
-μ-loop book i heads links at₀ at = at
+μ-loop book i valued heads links at₀ at = at
 
 loop-holds : tie.Need-loop-holds Inv-loop μ-loop
 loop-holds c =
     let start = c .before .before .before in
-    way-start _ _ _ _ (start .pre .1) _ (c .before .slot .ensures .0) (c .before .slot .ensures .1)
+    way-start _ _ _ _ _ (start .pre .2) (start .pre .1) _ (c .before .slot .ensures .0) (c .before .slot .ensures .1)
 
 within : (c : tie.In-loop Inv-loop μ-loop) → c .before .loop .at < 257
 within c =
@@ -33,26 +33,26 @@ returns : tie.Need-returns Inv-loop μ-loop
 returns c =
     let at-loop = c .before .before .before in
     let args = at-loop .before .before .before .before .args in
-    way-found (args .book .now) (args .i) _ (at-loop .loop .inv) (c .before .before .loop-test .taken)
+    way-found (args .valued) (args .book .now) (args .i) _ (at-loop .loop .inv) (c .before .before .loop-test .taken)
     (c .before .alike .ensures .0 (c .if1 .taken))
 
 loop-less : tie.Need-loop-less Inv-loop μ-loop
 loop-less c =
     let inside = c .before .before .before in
     let start = inside .before .before .before .before .before in
-    way-down _ _ _ _ (start .pre .1) _ (inside .before .loop .inv) (inside .loop-test .taken)
+    way-down _ _ _ _ _ (start .pre .2) _ (inside .before .loop .inv) (inside .loop-test .taken)
 
 loop-again : tie.Need-loop-again Inv-loop μ-loop
 loop-again c =
     let inside = c .before .before .before in
     let start = inside .before .before .before .before .before in
-    way-back _ _ _ _ (start .pre .1) _ (inside .before .loop .inv) (inside .loop-test .taken)
+    way-back _ _ _ _ _ (start .pre .2) _ (inside .before .loop .inv) (inside .loop-test .taken) (start .pre .1)
     (λ a. true≢false (sym (c .before .before .alike .ensures .1 a) ∙ c .before .if1 .left))
 
 returns-2 : tie.Need-returns-2 Inv-loop μ-loop
 returns-2 c =
     let args = c .before .before .before .before .before .args in
-    way-end (args .book .now) (args .i) _ (c .loop-test .left) (c .before .loop .inv)
+    way-end (args .valued) (args .book .now) (args .i) _ (c .before .loop .inv) (c .loop-test .left)
 
 pub find-spec : {M : Type 1} → statement M
 find-spec =

@@ -113,7 +113,7 @@ module _ {w : List ℕ} {i o p : ℕ} {cells counts : List ℕ} (k : KeyedEntry 
             (sym
             (found-kept (entryObject w j) (entryKey w j)
             (λ a b.
-            firsts-apart w j p f (k .represents .first) d (on ∙ sym a, k .represents .alike .1 ∙ sym b))))
+            firsts-apart false w j p f (k .represents .first) d (on ∙ sym a, k .represents .alike .1 ∙ sym b))))
 
     fresh-after : (q x : ℕ) → Untouched w (i + 1) q x → (kindAt w q ≡ some Stack → ⊥)
         → found x (rows-after q) ≡ found x (rowsAt w q)

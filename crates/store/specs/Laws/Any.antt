@@ -6,7 +6,7 @@ use mathlib.Core.List.{List, [], _∷_, _++_}
 use Rattle.operations.specs.Operations.{All}
 use Rattle.operations.specs.Log.{filter}
 use Rattle.operations.specs.Laws.Cases.{split, all-map}
-use Rattle.store.specs.Dependency.{Any}
+use Rattle.store.specs.Dependency.{Any, Follows}
 
 module _ {A : Type 0} where
   pub any-some : (P : A → Type 0) (l : List A) → Any P l → (x : A) × P x
@@ -22,6 +22,18 @@ module _ {A : Type 0} where
   any-map P Q f [] p = p
   any-map P Q f (x ∷ l) (inl p) = inl (f x p)
   any-map P Q f (x ∷ l) (inr p) = inr (any-map P Q f l p)
+
+  -- where the elements are such besides
+  any-all : (P Q S : A → Type 0) → ((x : A) → P x → Q x → S x) → (l : List A) → All P l → Any Q l → Any S l
+  any-all P Q S f [] a p = p
+  any-all P Q S f (x ∷ l) a (inl p) = inl (f x (a .0) p)
+  any-all P Q S f (x ∷ l) a (inr p) = inr (any-all P Q S f l (a .1) p)
+
+  pub follows-all : (P : A → Type 0) (R S : A → A → Type 0) → ((e x : A) → P e → P x → R e x → S e x) → (l : List A)
+      → All P l → Follows R l → Follows S l
+  follows-all P R S f [] a p = p
+  follows-all P R S f (e ∷ l) a (inl p) = inl (any-all P (R e) (S e) (λ x q. f e x (a .0) q) l (a .1) p)
+  follows-all P R S f (e ∷ l) a (inr p) = inr (follows-all P R S f l (a .1) p)
 
   pub any-append : (P : A → Type 0) (l m : List A) → Any P (l ++ m) ↔ (Any P l ⊎ Any P m)
   any-append P [] m = (inr, ⊎-elim (λ p. absurd p) (λ p. p))

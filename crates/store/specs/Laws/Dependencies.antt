@@ -1,20 +1,25 @@
--- A transaction depends on nobody exactly where its entries commute with every earlier entry of another.
+-- On whom a transaction depends, by what commutes and by whose order shows.
 use Prim.Native.Nat.{ℕ}
-use mathlib.Core.Path.{_≡_, refl, sym, _∙_, subst}
+use mathlib.Core.Path.{_≡_, refl, sym, ap, _∙_, subst}
 use mathlib.Core.Bool.{Bool, true, false, true≢false}
-use mathlib.Core.Logic.{inl, inr}
+use mathlib.Core.Logic.{_↔_, inl, inr}
+use mathlib.Core.Option.{some, Option·some-injective}
 use mathlib.Core.List.{List, [], _∷_}
 use borrow.Author.Tests.{eqb-true, eqb-false, eq-eqb, ne-eqb}
 use lib.Dec.{eqb}
-use Rattle.operations.specs.Operations.{Kind, All}
+use Rattle.operations.specs.Operations.{Kind, kindOf, All, StoredKey, Fits}
 use Rattle.operations.specs.PairRules.{commutes}
 use Rattle.operations.specs.Log.{Commuting, PassesBefore}
 use Rattle.operations.specs.Laws.ObjectTypes.{ObjectType}
-use Rattle.operations.specs.Laws.Cases.{split}
+use Rattle.operations.specs.Laws.Cases.{split, all-map₂}
 use Rattle.operations.specs.Laws.Objects.{object}
-use Rattle.store.specs.Store.{Logged, onObject}
-use Rattle.store.specs.Dependency.{Any, Follows, Conflict, DependsOn}
-use Rattle.store.specs.Laws.Any.{any-some}
+use Rattle.operations.specs.Laws.Recoverability.{either-order}
+use Rattle.operations.specs.Laws.Witnesses.{orderWitness, order-valid, order-differs}
+use Rattle.store.specs.Store.{Logged, Store, objectOf, onObject}
+use Rattle.store.specs.Layout.{Format}
+use Rattle.store.specs.Dependency.{Any, Follows, Conflict, Shown, DependsOn}
+use Rattle.store.specs.Soundness.{EntriesFit, KeysReduced}
+use Rattle.store.specs.Laws.Any.{any-some, follows-all}
 
 module _ (reduce : ℕ → ℕ) (kind : Kind) (t : ℕ) where
   abbrev X : ObjectType
@@ -101,3 +106,53 @@ module _ (P : ℕ → Type 0) (a b : ℕ) where
 
   pub depended-on : (log : List Logged) → All (λ (l : Logged). P (l .entry .transaction)) log → DependsOn log a b → P b
   depended-on log all d = follows-owner log all (d .1)
+
+-- ---- Entries whose order shows
+
+module _ (format : Format) (s : Store) (fits : EntriesFit s) (reduced : KeysReduced format s) (a b : ℕ) where
+  abbrev Placed : Logged → Type 0
+  Placed l =
+      (objectOf s (l .object) .kind ≡ some (kindOf (l .entry .operation)))
+      × StoredKey (format .reduce) (l .entry .operation)
+
+  one-kind : (e x : Logged) → Placed e → Placed x → x .object ≡ e .object
+      → kindOf (e .entry .operation) ≡ kindOf (x .entry .operation)
+  one-kind e x p q o =
+      Option·some-injective _ _ (sym (p .0) ∙ (ap (λ (y : ℕ). objectOf s y .kind) (sym o) ∙ q .0))
+
+  shows : (e x : Logged) → Placed e → Placed x → Conflict a b e x → Shown (format .reduce) a b e x
+  shows e x p q (own, owner, o, conflict) =
+      let kind = kindOf (x .entry .operation) in
+      let fe : Fits (format .reduce) kind (e .entry .operation) = (one-kind e x p q o, p .1) in
+      let fx : Fits (format .reduce) kind (x .entry .operation) = (refl, q .1) in (
+        own,
+        owner,
+        o,
+        (
+          orderWitness (x .entry .operation) (e .entry .operation),
+          order-valid (format .reduce) kind (x .entry .operation) (e .entry .operation) fx fe,
+          order-differs kind (x .entry .operation) (e .entry .operation) refl (fe .0) conflict,
+        ),
+      )
+
+  conflicts : (e x : Logged) → Placed e → Placed x → Shown (format .reduce) a b e x → Conflict a b e x
+  conflicts e x p q (own, owner, o, (rs, formed, differs)) =
+      let kind = kindOf (x .entry .operation) in
+      let fe : Fits (format .reduce) kind (e .entry .operation) = (one-kind e x p q o, p .1) in
+      let fx : Fits (format .reduce) kind (x .entry .operation) = (refl, q .1) in (
+        own,
+        owner,
+        o,
+        split (commutes (x .entry .operation) (e .entry .operation))
+            (λ (c : commutes (x .entry .operation) (e .entry .operation) ≡ true).
+            absurd (differs (either-order (object (format .reduce) kind) (x .entry .operation) (e .entry .operation) rs
+            fx fe formed c)))
+            (λ (c : commutes (x .entry .operation) (e .entry .operation) ≡ false). c),
+      )
+
+  pub depends-shown : DependsOn (s .log) a b ↔ ((a ≡ b → ⊥) × Follows (Shown (format .reduce) a b) (s .log))
+  depends-shown =
+      let placed : All Placed (s .log) = all-map₂ (λ l f k. (f, k)) (s .log) fits reduced in (
+        λ d. (d .0, follows-all Placed (Conflict a b) (Shown (format .reduce) a b) shows (s .log) placed (d .1)),
+        λ d. (d .0, follows-all Placed (Shown (format .reduce) a b) (Conflict a b) conflicts (s .log) placed (d .1)),
+      )

@@ -8,11 +8,12 @@ use borrow.Author.Tests.{eq-eqb, ne-eqb}
 use lib.Dec.{eqb}
 use Rattle.operations.specs.Operations as model
 use Rattle.operations.specs.declared.Operation.{Operation}
-use Rattle.operations.specs.PairRules.{Rule, always, never, apart, recoverable, recoverableRules, firstNumber}
+use Rattle.operations.specs.PairRules.{Rule, always, never, apart, equal, agreeing, recoverable}
+use Rattle.operations.specs.PairRules.{recoverableRules, firstNumber}
 use Rattle.operations.specs.Stored.{operationOf}
 use Rattle.operations.specs.Laws.Storing.{read-back}
 use Rattle.operations.specs.Laws.Numbers.{numbers}
-use Rattle.pairs.specs.Pairs.{codeOf, codeAt, allowsKeys, both}
+use Rattle.pairs.specs.Pairs.{codeOf, codeAt, ByKeys, allowsKeys, both}
 use Rattle.pairs.specs.Laws.{Within, recoverableKeyed, decided}
 use Rattle.log.specs.Log.{StoredAs}
 
@@ -46,7 +47,8 @@ pub record Ruled (requested logged : Operation) (o p : model.Operation) (found :
 
 module _ {requested logged : Operation} {o p : model.Operation} {found : ℕ}
     (ruled : Ruled requested logged o p found) where
-  said : (r : Bool) → ((rule : Rule) → found ≡ codeOf rule → r ≡ allowsKeys rule (requested .key) (logged .key))
+  said : (r : Bool)
+      → ((rule : Rule) → ByKeys rule → found ≡ codeOf rule → r ≡ allowsKeys rule (requested .key) (logged .key))
       → recoverable o p ≡ r
   said r allowed =
       let pair = ruled .pair in
@@ -56,19 +58,23 @@ module _ {requested logged : Operation} {o p : model.Operation} {found : ℕ}
   pub always-yes : found ≡ 1 → recoverable o p ≡ true
   always-yes e = said true by
     where
-      by : (rule : Rule) → found ≡ codeOf rule → true ≡ allowsKeys rule (requested .key) (logged .key)
-      by always c = refl
-      by never c = absurd (omega arith)
-      by apart c = absurd (omega arith)
+      by : (rule : Rule) → ByKeys rule → found ≡ codeOf rule → true ≡ allowsKeys rule (requested .key) (logged .key)
+      by always k c = refl
+      by never k c = absurd (omega arith)
+      by apart k c = absurd (omega arith)
+      by equal k c = absurd k
+      by agreeing k c = absurd k
 
   by-keys : found ≡ 2 → recoverable o p ≡ not (eqb (requested .key) (logged .key))
   by-keys e = said (not (eqb (requested .key) (logged .key))) by
     where
-      by : (rule : Rule) → found ≡ codeOf rule
+      by : (rule : Rule) → ByKeys rule → found ≡ codeOf rule
           → not (eqb (requested .key) (logged .key)) ≡ allowsKeys rule (requested .key) (logged .key)
-      by always c = absurd (omega arith)
-      by never c = absurd (omega arith)
-      by apart c = refl
+      by always k c = absurd (omega arith)
+      by never k c = absurd (omega arith)
+      by apart k c = refl
+      by equal k c = absurd k
+      by agreeing k c = absurd k
 
   pub same-keys : found ≡ 2 → requested .key ≡ logged .key → recoverable o p ≡ false
   same-keys e k = by-keys e ∙ ap not (eq-eqb (requested .key) (logged .key) k)
@@ -79,7 +85,9 @@ module _ {requested logged : Operation} {o p : model.Operation} {found : ℕ}
   pub otherwise-no : (found ≡ 1 → ⊥) → (found ≡ 2 → ⊥) → recoverable o p ≡ false
   otherwise-no n1 n2 = said false by
     where
-      by : (rule : Rule) → found ≡ codeOf rule → false ≡ allowsKeys rule (requested .key) (logged .key)
-      by always c = absurd (n1 c)
-      by never c = refl
-      by apart c = absurd (n2 c)
+      by : (rule : Rule) → ByKeys rule → found ≡ codeOf rule → false ≡ allowsKeys rule (requested .key) (logged .key)
+      by always k c = absurd (n1 c)
+      by never k c = refl
+      by apart k c = absurd (n2 c)
+      by equal k c = absurd k
+      by agreeing k c = absurd k
