@@ -7,7 +7,7 @@ use mathlib.Core.List.{List, ◌∷◌}
 use Rattle.std.proofs.Math.Bool.{true, false, not, and-eq-true_iff, and-true, and-false}
 use Rattle.std.proofs.lemmas.Bool.{false≢true, eqb-false, not-true}
 use mathlib.Mathlib.Data.Bool.Basic.{eq-false_of_not-eq-true}
-use Rattle.std.proofs.Math.Logic.{⊎_elim, Iff·trans, Iff·symm}
+use Rattle.std.proofs.Math.Logic.{⊎_elim}
 use Prim.Native.Nat.{ℕ, zero, suc, ◌+◌, ◌-◌, ◌*◌, ◌/◌, ◌%◌, ◌^◌, ◌<◌, ◌≤◌}
 use Rattle.std.proofs.Math.Nat.{zero-div, div-eq_of_lt, mul-mod_left, mul-div-mul_right}
 use Rattle.std.proofs.Math.Arith.{bin_ind, lt-one}
@@ -18,6 +18,7 @@ use Rattle.std.proofs.Math.Dec.{eqb, eqb-zero-suc, eqb-suc-zero, eqb-suc-suc}
 use Rattle.std.proofs.Math.Pow.{pow-lt}
 use Rattle.bitset.specs.Bitset.{has, Members, Holds, In, Lowest, including, in_front, members_from, members}
 use Rattle.bitset.specs.Bitset.{size}
+use mathlib.Core.Logic.Iff
 
 power : (t : ℕ) → Members (2 ^ t) (λ h. eqb h t)
 unfolding has
@@ -232,7 +233,7 @@ same_truth false true h = h.1 refl
 same_truth false false h = refl
 
 pub holds_unique : (a b : ℕ) (P : ℕ → Type 0) → Holds a P → Holds b P → a ≡ b
-holds_unique a b P p q = same_members a b (λ h. same_truth (has a h) (has b h) (Iff·trans (p h) (Iff·symm (q h))))
+holds_unique a b P p q = same_members a b (λ h. same_truth (has a h) (has b h) (Iff.trans (p h) (Iff.symm (q h))))
 
 pub holds_none : (P : ℕ → Type 0) → ((b : ℕ) → P b → ⊥) → Holds 0 P
 holds_none P none b = (λ e. absurd (nobody_in 0 b refl e), λ p. absurd (none b p))

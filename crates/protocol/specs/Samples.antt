@@ -1,7 +1,6 @@
 -- Finish on stores that a few entries make: table 1 of document 000, and equal entries (02, No. 5).
 use Rattle.std.specs.Prelude.{ℕ, ◌<◌, ◌≡◌, refl, ◌↔◌, List, [], ◌∷◌, ◌++◌, length, drop, replicate}
 use Rattle.std.proofs.Math.Bool.{decide}
-use Rattle.std.proofs.Math.Logic.{Dec·and, Dec·not}
 use Rattle.std.proofs.Math.Decide.{ℕ_discrete}
 use Rattle.std.proofs.Common.{arith}
 use Rattle.operations.specs.Operations.{push, modify, on_stack, on_table}
@@ -15,6 +14,7 @@ use Rattle.protocol.specs.Ending.{ended, commit, lowest_ready, first_below}
 use Rattle.protocol.specs.Calls.{empty, entered, finish_active}
 use Rattle.protocol.specs.Terms.{Among}
 use Rattle.protocol.specs.Laws.Attempts.{predecessors_of, predecessors_listed, successors_of, successors_listed}
+use mathlib.Core.Logic.Dec
 
 module _ (s : Store) (t : ℕ) where
   -- The transaction's SUCC and PRED, listed.
@@ -83,7 +83,7 @@ pub table_1 : Sets before 4 [] [] × Result before 4 finished [] first
     × Sets third 4 (1 ∷ 2 ∷ []) [] × Sets third 1 [] (2 ∷ 4 ∷ [])
     × Sets third 5 [] (1 ∷ 2 ∷ 4 ∷ []) × Result third 5 (committed 1) (5 ∷ []) fourth
     × Sets fourth 3 (1 ∷ 2 ∷ 4 ∷ []) (1 ∷ 2 ∷ 4 ∷ []) × Result fourth 3 (circle 3) (1 ∷ 2 ∷ 4 ∷ []) last
-unfolding whether_ready whether_on_cycle lowest_ready first_below decide Dec·and Dec·not ℕ_discrete
+unfolding whether_ready whether_on_cycle lowest_ready first_below decide Dec.and Dec.not ℕ_discrete
 table_1 = (
   gathered before refl 4 (omega arith),
   λ list. refl,
@@ -120,7 +120,7 @@ pub equal_entries : Result (spares 7 7) 1 (committed 1) (1 ∷ []) (commit 1 (sp
     × Result (spares 7 9) 1 finished [] (finished_first 1 (spares 7 9))
     × Result (marks 3 3) 1 (committed 1) (1 ∷ []) (commit 1 (marks 3 3))
     × Result (marks 3 4) 1 finished [] (finished_first 1 (marks 3 4))
-unfolding whether_ready whether_on_cycle lowest_ready first_below decide Dec·and Dec·not ℕ_discrete
+unfolding whether_ready whether_on_cycle lowest_ready first_below decide Dec.and Dec.not ℕ_discrete
 equal_entries = (λ list. refl, λ list. refl, λ list. refl, λ list. refl)
 
 -- Document 01's sample on two stacks: 0 pushes on the first, 1 on the first, 1 on the second, 0 on the second.
@@ -140,5 +140,5 @@ pub two_stacks_lem : (let s = two_stacks 7 9 9 7 in
     × (let s = two_stacks 7 9 8 8 in
     Result s 1 finished [] (finished_first 1 s)
     × Result (finished_first 1 s) 0 (committed 2) (0 ∷ 1 ∷ []) (commit 1 (commit 0 (finished_first 1 s))))
-unfolding whether_ready whether_on_cycle lowest_ready first_below decide Dec·and Dec·not ℕ_discrete
+unfolding whether_ready whether_on_cycle lowest_ready first_below decide Dec.and Dec.not ℕ_discrete
 two_stacks_lem = ((λ list. refl, λ list. refl), (λ list. refl, λ list. refl), (λ list. refl, λ list. refl))

@@ -5,7 +5,6 @@
 use Rattle.std.specs.Prelude.{ℕ, ◌+◌, ◌*◌, ◌%◌, ◌^◌, ◌<◌, ◌≤◌, ◌≡◌, refl, true, false, ◌↔◌, ◌⊎◌, List, [], ◌∷◌, ◌++◌, map, length, get_or, replicate, take, drop}
 use Rattle.std.proofs.Common.{sym, ap, ◌∙◌, subst, arith, length-set, get_or-set_same, get_or-set_other}
 use Rattle.std.proofs.Math.Path.{subst⁻¹}
-use Rattle.std.proofs.Math.Logic.{Iff·rfl, Iff·trans, Iff·and}
 use Rattle.std.proofs.Math.Option.{some}
 use Rattle.operations.specs.Operations.{Kind, Operation, Answer, answering, All, number_of, key_of, value_of, answer}
 use Rattle.operations.specs.Operations.{next, reduce_key}
@@ -50,6 +49,7 @@ use Rattle.protocol.specs.Laws.Concluding.{EndLeaves}
 use Rattle.protocol.specs.Laws.Keeping.{emptied_sound}
 use Rattle.protocol.specs.Laws.Kept as kept
 use Rattle.protocol.specs.Laws.Leaving as leaving
+use mathlib.Core.Logic.Iff
 
 -- ---- Reasons for saying no
 
@@ -154,7 +154,7 @@ module _ (w : List ℕ) (t o number k v : ℕ) (accepted : operate_reason base w
       (on_object o s.log)
   operate_answered_exactly =
       rw (protocol.responded w t o number k v accepted)
-      (Iff·trans (protocol.answered_once w t (lent_operation o number k v) (owners t requested (on_object o s.log)))
+      (Iff.trans (protocol.answered_once w t (lent_operation o number k v) (owners t requested (on_object o s.log)))
       (none_owned t requested (on_object o s.log)))
 
   -- else waits for a set, not empty, whose members are exactly the other transactions with an entry on the object that
@@ -166,7 +166,7 @@ module _ (w : List ℕ) (t o number k v : ℕ) (accepted : operate_reason base w
       let barring = owners t requested (on_object o s.log) in
       let exactly = owned_exactly t requested (on_object o s.log) set in
       rw (protocol.responded w t o number k v accepted) (
-        Iff·trans (protocol.waits_some w t (lent_operation o number k v ∷ []) set count barring)
+        Iff.trans (protocol.waits_some w t (lent_operation o number k v ∷ []) set count barring)
             (λ p. (exactly.0 p.0, p.1, p.2), λ p. (exactly.1 p.0, p.1, p.2)),
         protocol.waits_unchanged w t (lent_operation o number k v ∷ []) set count barring,
       )
@@ -250,7 +250,7 @@ module _ (w : List ℕ) (t o number k v : ℕ) (accepted : operate_reason base w
 
 -- A transaction depends on another exactly where two places of the log say so; d stands for entries past its end.
 pub depends_exactly : (d : Logged) (log : List Logged) (a b : ℕ) → DependsOn log a b ↔ ((a ≡ b → ⊥) × Places d log a b)
-depends_exactly d log a b = Iff·and Iff·rfl (protocol.conflict_places d log a b)
+depends_exactly d log a b = Iff.and Iff.rfl (protocol.conflict_places d log a b)
 
 -- ---- Batch
 
@@ -279,7 +279,7 @@ module _ (w : List ℕ) (t : ℕ) (operations : List ℕ) (accepted : batch_reas
       (on_object q.object held.log)) qs
   batch_answered_exactly =
       rw (protocol.batch_responded w t operations accepted)
-      (Iff·trans (protocol.answered_none w t qs (awaited base t held qs)) (batches.free_each t held qs))
+      (Iff.trans (protocol.answered_none w t qs (awaited base t held qs)) (batches.free_each t held qs))
 
   -- else waits for a set, not empty, whose members are exactly the other transactions with an entry on the object of
   -- one of its operations that this one is not recoverable against, says how many they are, and changes no word;
@@ -291,7 +291,7 @@ module _ (w : List ℕ) (t : ℕ) (operations : List ℕ) (accepted : batch_reas
   batch_waits_exactly set count =
       let exactly = held_exactly _ set (awaited base t held qs) (batches.awaits_each t held qs) in
       rw (protocol.batch_responded w t operations accepted) (
-        Iff·trans (protocol.waits_some w t qs set count (awaited base t held qs))
+        Iff.trans (protocol.waits_some w t qs set count (awaited base t held qs))
             (λ p. (exactly.0 p.0, p.1, p.2), λ p. (exactly.1 p.0, p.1, p.2)),
         protocol.waits_unchanged w t qs set count (awaited base t held qs),
       )
@@ -396,10 +396,10 @@ batch_own_reason w t operations =
     let s = decode base w in
     let qs = operations_in operations in
     let before = own_reason base whether_sound w t operations in (
-      Iff·trans (leaving.refused_as (calling.batch t operations) w 8 refl)
-          (Iff·trans (before 8 refl refl refl) (Iff·and Iff·rfl (own_8 s qs))),
-      Iff·trans (leaving.refused_as (calling.batch t operations) w 9 refl)
-          (Iff·trans (before 9 refl refl refl) (Iff·and Iff·rfl (own_9 s qs))),
+      Iff.trans (leaving.refused_as (calling.batch t operations) w 8 refl)
+          (Iff.trans (before 8 refl refl refl) (Iff.and Iff.rfl (own_8 s qs))),
+      Iff.trans (leaving.refused_as (calling.batch t operations) w 9 refl)
+          (Iff.trans (before 9 refl refl refl) (Iff.and Iff.rfl (own_9 s qs))),
     )
 
 -- 10 exactly where no operation has one, and the log's entries and the batch's operations together are more than 256:
@@ -455,12 +455,12 @@ module _ (w : List ℕ) (t : ℕ) (list : List ℕ) (accepted : end_reason base 
       ↔ Leads (DependsOn before.log) (PseudoCommitted before) t t
   finish_circle =
       rw (protocol.finishing w t list accepted)
-      (Iff·trans (protocol.circle_exactly before t list) (protocol.any_circle w t list accepted))
+      (Iff.trans (protocol.circle_exactly before t list) (protocol.any_circle w t list accepted))
 
   -- that is where its predecessors and successors meet (document 000, section 4.2.1);
   pub finish_circle_met : ((n : ℕ) × (ending.outcome.reply ≡ circle n))
       ↔ Meet (PRED before t) (SUCC before t)
-  finish_circle_met = Iff·trans finish_circle (cycle_met before t)
+  finish_circle_met = Iff.trans finish_circle (cycle_met before t)
 
   -- it commits exactly where it depends on nobody;
   pub finish_committed : ((n : ℕ) × (ending.outcome.reply ≡ committed n)) ↔ Ready before.log t
@@ -470,10 +470,10 @@ module _ (w : List ℕ) (t : ℕ) (list : List ℕ) (accepted : end_reason base 
   pub finish_finished : (ending.outcome.reply ≡ finished)
       ↔ ((Meet (PRED before t) (SUCC before t) → ⊥) × ((u : ℕ) × DependsOn before.log t u))
   finish_finished =
-      let met = Iff·trans (protocol.any_circle w t list accepted) (cycle_met before t) in
+      let met = Iff.trans (protocol.any_circle w t list accepted) (cycle_met before t) in
       rw (protocol.finishing w t list accepted)
-      (Iff·trans (protocol.finished_exactly before t list)
-      (Iff·and (λ off m. off (met.1 m), λ apart c. apart (met.0 c)) Iff·rfl))
+      (Iff.trans (protocol.finished_exactly before t list)
+      (Iff.and (λ off m. off (met.1 m), λ apart c. apart (met.0 c)) Iff.rfl))
 
   -- and there is no fourth reply. Cancel has a single one.
   pub finish_either : ((n : ℕ) × (ending.outcome.reply ≡ circle n))

@@ -45,7 +45,7 @@ entry_object_requires c κs = readable c
 entry_operation_requires : tie.Need-entry-operation-requires invariant_loop decreases_loop
 entry_operation_requires c κs = readable c.before.before.before
 
-add_used : tie.Need-overflow-add-used invariant_loop decreases_loop
+add_used : tie.Need-overflow_add-used invariant_loop decreases_loop
 add_used c =
     let in_loop = c.before.before.before.before.before in
     let few = needed_few c.before.entry-operation.result.number in

@@ -4,7 +4,7 @@ use Rattle.bitset.specs.Laws.{tested}
 use Rattle.bitset.proofs.contains.Statement.{statement}
 use Rattle.bitset.proofs.contains.Tie as tie
 
-shr_result : tie.Need-overflow-shr-result
+shr_result : tie.Need-overflow_shr-result
 shr_result c = search rules
 
 returns : tie.Need-returns

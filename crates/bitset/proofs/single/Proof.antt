@@ -4,7 +4,7 @@ use Rattle.bitset.specs.Laws.{shifted}
 use Rattle.bitset.proofs.single.Statement.{statement}
 use Rattle.bitset.proofs.single.Tie as tie
 
-shl_result : tie.Need-overflow-shl-result
+shl_result : tie.Need-overflow_shl-result
 shl_result c = search rules
 
 returns : tie.Need-returns

@@ -58,7 +58,7 @@ module _ (c : tie.After-struct-known invariant_loop decreases_loop) where
   left : length (mid_of at (length block - at) block) ≡ length block - at
   left = mid_len at (length block) block (omega arith)
 
-add_at : tie.Need-overflow-add-at invariant_loop decreases_loop
+add_at : tie.Need-overflow_add-at invariant_loop decreases_loop
 add_at c =
     omega (
       arith,

@@ -10,10 +10,10 @@ use Rattle.capi.proofs.lending_desk_batch.Tie as tie
 few : (c : tie.After-batch) → c.batch.result.count ≤ 16
 few c = few_counted c.batch.result c.batch.ensures.1 _ _ _ _ c.batch.ensures.0
 
-cast_count : tie.Need-overflow-cast-t10
+cast_count : tie.Need-overflow_cast-t10
 cast_count c = omega (arith, few c.before.before.before.before.before)
 
-add_count : tie.Need-overflow-add-t11
+add_count : tie.Need-overflow_add-t11
 add_count c =
     let called = c.before.before.before.before.before.before in
     ⊎_elim (λ e. omega (arith, e, few called)) (λ e. omega (arith, e))

@@ -20,7 +20,7 @@ low c =
 rows_start_requires : tie.Need-rows-start-requires
 rows_start_requires c κs = low c
 
-cast_start : tie.Need-overflow-cast-start
+cast_start : tie.Need-overflow_cast-start
 cast_start c = omega (arith, low c.before, c.Rows-start.ensures)
 
 accepted : tie.Need-returns

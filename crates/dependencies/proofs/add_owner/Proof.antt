@@ -11,7 +11,7 @@ use Rattle.dependencies.specs.Laws.Numbers.{ranged}
 use Rattle.dependencies.proofs.add_owner.Statement.{statement}
 use Rattle.dependencies.proofs.add_owner.Tie as tie
 
-sub_wide : tie.Need-overflow-sub-wide
+sub_wide : tie.Need-overflow_sub-wide
 sub_wide c = omega (arith, c.first.ensures, (ranged c.before.args.number c.before.requires.1).least)
 
 column : (c : tie.After-wide) → c.wide.result ≡ column_of c.before.before.args.number

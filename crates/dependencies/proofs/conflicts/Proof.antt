@@ -69,7 +69,7 @@ twin_requires c κs = let turn = c.before.before in (inside turn, turn.before.lo
 abbrev turning : tie.After-twin invariant_loop decreases_loop → tie.In-loop invariant_loop decreases_loop
 turning c = c.before.before.before
 
-cast_enter : tie.Need-overflow-cast-enter invariant_loop decreases_loop
+cast_enter : tie.Need-overflow_cast-enter invariant_loop decreases_loop
 cast_enter c =
     let turn = turning c.before in
     omega (arith, below turn, ((start_of turn).pre.3.each turn.before.loop.i (inside turn).1).within)

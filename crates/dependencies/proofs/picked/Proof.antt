@@ -36,7 +36,7 @@ below c = omega (arith, c.loop-test.true, c.before.before.before.width.ensures)
 inside : (c : tie.In-loop invariant_loop decreases_loop) → c.before.loop.at < 5
 inside c = omega (arith, below c, (ranged (entered c).args.number (entered c).requires.0).width)
 
-add_key_owners : tie.Need-overflow-add-key-owners invariant_loop decreases_loop
+add_key_owners : tie.Need-overflow_add-key-owners invariant_loop decreases_loop
 add_key_owners c =
     let turn = c.before in
     let start = entered turn in

@@ -1,11 +1,11 @@
 -- Some number below another, and rows of sets by the relations that tell their members.
 use Rattle.std.specs.Prelude.{ℕ, zero, suc, ◌+◌, ◌<◌, ◌≡◌, refl, ◌||◌, ◌↔◌, ◌⊎◌, List, eqb, get_or, set, length, replicate}
 use Rattle.std.proofs.Common.{sym, subst, ◌∙◌, inl, inr, ⊎_elim, arith, eqb-true, eq-eqb, length-set, get_or-set_same, get_or-set_other}
-use Rattle.std.proofs.Math.Logic.{Iff·rfl}
 use Rattle.operations.specs.Laws.Cases.{same}
 use Rattle.bitset.specs.Bitset.{has, Members, In, Holds, Represents}
 use Rattle.bitset.specs.Laws.{holds_none, holds_same, holds_join}
 use Rattle.dependencies.specs.Dependencies.{Some, OwnersRow, Added}
+use mathlib.Core.Logic.Iff
 
 -- ---- Some number below n
 
@@ -60,7 +60,7 @@ module _ (condition : Type 0) (n : ℕ) (row : List ℕ) (m : ℕ) (Q : ℕ → 
         columns = length-set row m u ∙ columns;
         sets = represents_same (λ k b. In (get_or row k 0) b ⊎ ((m ≡ k) × Q b))
             (λ k b. In (get_or row k 0) b ⊎ (condition × (m ≡ k) × Q b)) (set row m u)
-            (represents_join (λ k b. In (get_or row k 0) b) Q row m s u (λ k b. Iff·rfl) q (omega arith) joined)
+            (represents_join (λ k b. In (get_or row k 0) b) Q row m s u (λ k b. Iff.rfl) q (omega arith) joined)
             (λ k b. (⊎_elim inl (λ x. inr (holds, x.0, x.1)), ⊎_elim inl (λ x. inr (x.1, x.2))));
       }
 

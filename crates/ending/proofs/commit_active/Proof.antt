@@ -42,7 +42,7 @@ commit_ready_requires c κs =
     commit_settles pre.0 pre.1 _ forget.forget.ensures pre.2 commit.commit.ensures _
     (omega (arith, pre.3, rest_length args.list.now args.transaction))
 
-add_result : tie.Need-overflow-add-result
+add_result : tie.Need-overflow_add-result
 add_result c =
     let settle = c.before.before.before.before in
     let forget = forgotten settle in

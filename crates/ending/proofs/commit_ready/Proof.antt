@@ -68,7 +68,7 @@ inside : (c : tie.After-without invariant_loop decreases_loop)
     → let loop = (at_loop (turn c).before).loop in loop.count < length loop.list
 inside c = within (at_loop (turn c).before).loop.inv (next (turn c)).0
 
-add_count : tie.Need-overflow-add-count invariant_loop decreases_loop
+add_count : tie.Need-overflow_add-count invariant_loop decreases_loop
 add_count c =
     let at_loop = at_loop (turn c).before in
     omega (arith, inside c, at_loop.loop.inv.whole, at_loop.before.before.before.good.1.1.1.0)

@@ -5,7 +5,7 @@ use Rattle.ending.specs.Laws.Steps.{rank_few, pseudo_committed_lem}
 use Rattle.ending.proofs.pseudo_commit.Statement.{statement}
 use Rattle.ending.proofs.pseudo_commit.Tie as tie
 
-rank_fits : tie.Need-overflow-add-set-status
+rank_fits : tie.Need-overflow_add-set-status
 rank_fits c =
     let start = c.before.before.before.before in
     omega (arith, rank_few start.args.book.now _ c.before.next-rank.ensures start.requires.0)

@@ -1,6 +1,5 @@
 -- Sets of dependencies that a transaction leaves.
 use Rattle.std.specs.Prelude.{ℕ, ◌+◌, ◌<◌, ◌≤◌, ◌≡◌, refl, false, not, ◌&&◌, ◌↔◌, List, eqb, ltb, length, get_or, set}
-use Rattle.std.proofs.Math.Logic.{Iff·trans}
 use Rattle.std.proofs.Common.{arith, ltb-true, ltb-false, get_or-set_same, get_or-set_other}
 use Rattle.std.proofs.Math.ListN.{get_or-eq_default}
 use Rattle.operations.specs.Laws.Cases.{split, by_key}
@@ -8,6 +7,7 @@ use Rattle.bitset.specs.Bitset.{has, Members}
 use Rattle.bitset.specs.Laws.{nobody_in, in_rest}
 use Rattle.graph.specs.Edges.{EdgeIn}
 use Rattle.ending.specs.Ending.{Forgotten}
+use mathlib.Core.Logic.Iff
 
 module _ (sets : List ℕ) (t : ℕ) where
   -- The sets of those below n are without t, the others as they were.
@@ -48,7 +48,7 @@ module _ (sets : List ℕ) (t : ℕ) (whole : length sets ≡ 64) (l : t < 64) w
   -- All without t, and its own set empty.
   forgotten_each : (left : List ℕ) (n : ℕ) → 64 ≤ n → ForgottenBelow (set sets t 0) t n left
       → (a b : ℕ) → EdgeIn left a b ↔ (EdgeIn sets a b × (a ≡ t → ⊥) × (b ≡ t → ⊥))
-  forgotten_each left n past all a b = Iff·trans (all a b) (by_key (λ (c : ℕ). Left c) a t own other)
+  forgotten_each left n past all a b = Iff.trans (all a b) (by_key (λ (c : ℕ). Left c) a t own other)
     where
       Left : ℕ → Type 0
       Left c = (EdgeIn (set sets t 0) c b × (c < n → b ≡ t → ⊥)) ↔ (EdgeIn sets c b × (c ≡ t → ⊥) × (b ≡ t → ⊥))

@@ -7,7 +7,7 @@ use Rattle.entry_log.specs.Laws.Writing.{count_kept, appended_words}
 use Rattle.entry_log.proofs.append.Statement.{statement}
 use Rattle.entry_log.proofs.append.Tie as tie
 
-add_book : tie.Need-overflow-add-book
+add_book : tie.Need-overflow_add-book
 add_book c =
     let put = c.before.before.before in
     let count = put.before.before in

@@ -19,15 +19,15 @@ returns c =
 at_most_11 : (c : tie.Else2) → c.before.before.args.operation.number ≤ 11
 at_most_11 c = ltb-false 11 _ c.if2.false
 
-shr_key : tie.Need-overflow-shr-key
+shr_key : tie.Need-overflow_shr-key
 shr_key c = omega (arith, at_most_11 c)
 
-mul_key : tie.Need-overflow-mul-key
+mul_key : tie.Need-overflow_mul-key
 mul_key c =
     let operation = c.before.before.before.args.operation in
     omega (arith, c.struct_known.given.1, masked_below 1_036 operation.number operation.key)
 
-mul_value : tie.Need-overflow-mul-value
+mul_value : tie.Need-overflow_mul-value
 mul_value c =
     let operation = c.before.before.before.before.args.operation in
     omega (arith, c.struct-known2.given.1, masked_below 1_918 operation.number operation.value)

@@ -1,7 +1,6 @@
 -- What is stored for an operation, by its number; and ranges and zeros of the whole log.
 use Rattle.std.specs.Prelude.{ℕ, zero, suc, ◌+◌, ◌-◌, ◌*◌, ◌/◌, ◌^◌, ◌≤◌, ◌<◌, ◌≡◌, refl, Bool, true, false, ◌↔◌, ◌⊎◌, List, ◌∷◌, map, eqb, length, take, drop}
 use Rattle.std.proofs.Common.{sym, ap, ap₂, subst, ◌∙◌, inl, inr, arith, eqb-true, eq-eqb, get_or-drop}
-use Rattle.std.proofs.Math.Logic.{Iff·trans}
 use Rattle.std.proofs.Math.Option.{none, some}
 use borrow.Author.Rules.{part_to_end}
 use Rattle.std.specs.Int.Bits.{bit_and, bit_or, or_self}
@@ -13,6 +12,7 @@ use Rattle.store.specs.Layout.{BookLong}
 use Rattle.store.specs.Layout.{base, word, or_pop, entry_start, ObjectPacked, AsStored, Packed}
 use Rattle.layout.specs.Laws.{or_zero_lem}
 use Rattle.entry_log.specs.Log.{StoredWords, LogBounded}
+use mathlib.Core.Logic.Iff
 
 -- ---- One operation
 
@@ -72,7 +72,7 @@ module _ (n k v : ℕ) where
   -- As the code's test tells it.
   pub stored_tested : (n ≡ 0 → ⊥) → n ≤ 11
       → (eqb (bit_or (masked 1_036 n k) (masked 1_918 n v)) 0 ≡ true) ↔ StoredWords n k v
-  stored_tested n0 l = Iff·trans (or_tested (masked 1_036 n k) (masked 1_918 n v)) (unused_stored n0 l)
+  stored_tested n0 l = Iff.trans (or_tested (masked 1_036 n k) (masked 1_918 n v)) (unused_stored n0 l)
 
   unnamed : stored (λ k. k) n k v ≡ none → (n ≡ 2 → ⊥) → StoredWords n k v → ⊥
   unnamed e other h = other (sym h.0 ∙ ap (λ q. number_of (or_pop q)) e)

@@ -33,7 +33,7 @@ past c = c.before.before.before
 abort_requires : tie.Need-abort-requires
 abort_requires c κs = may_abort (accepted (past c)) (past c).before.before.before.examined.ensures
 
-aborted_fits : tie.Need-overflow-cast-t20
+aborted_fits : tie.Need-overflow_cast-t20
 aborted_fits c =
     let abort = c.before.before.before.before in
     omega (arith, aborted_few (accepted (past abort.before)) abort.abort.ensures)

@@ -60,7 +60,7 @@ abort_requires : tie.Need-abort-requires
 abort_requires c κs =
     let e = past c.before.before.before.before in may_abort (accepted e) (examined e).examined.ensures
 
-aborted_fits : tie.Need-overflow-cast-t26
+aborted_fits : tie.Need-overflow_cast-t26
 aborted_fits c =
     let abort = c.before.before.before.before in
     let e = past abort.before.before.before.before.before in
@@ -92,7 +92,7 @@ commit_active_requires c κs =
     let e = past (apart free.before).before in
     may_commit (accepted e) (examined e).examined.ensures ((ready free.before).0 free.if3.true)
 
-committed_fits : tie.Need-overflow-cast-t34
+committed_fits : tie.Need-overflow_cast-t34
 committed_fits c =
     let commit = c.before.before.before.before in
     let e = past (apart commit.before.before.before.before.before).before in

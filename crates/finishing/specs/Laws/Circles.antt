@@ -1,6 +1,5 @@
 -- The sets that finish gathers are PRED and SUCC of the book's store, and meet exactly where there is a circle.
 use Rattle.std.specs.Prelude.{ℕ, ◌<◌, ◌≡◌, ◌&&◌, ◌↔◌, List, length}
-use Rattle.std.proofs.Math.Logic.{Iff·trans, Iff·symm}
 use Rattle.bitset.specs.Bitset.{has, In, Holds, Members, Represents}
 use Rattle.bitset.specs.Laws.{nobody_in, some_member, in_meet, holds_same}
 use Rattle.store.specs.Store.{Store, PseudoCommitted}
@@ -8,6 +7,7 @@ use Rattle.store.specs.Dependency.{DependsOn, Leads, Predecessor, Successor, OnC
 use Rattle.store.specs.Theorems.{cycle_any_length, cycle_met}
 use Rattle.graph.specs.Edges.{EdgeIn}
 use Rattle.sound.specs.Laws.{way_said}
+use mathlib.Core.Logic.Iff
 
 module _ (s : Store) (sets : List ℕ) (finished : ℕ) (edges : Represents sets (DependsOn s.log))
     (members : Holds finished (PseudoCommitted s)) where
@@ -50,4 +50,4 @@ module _ (s : Store) (sets : List ℕ) (finished : ℕ) (edges : Represents sets
         λ w none. nobody_in both w.0 none
             ((in_meet both before behind meet w.0).1 ((PREDs w.0).1 w.1, (SUCCs w.0).1 w.2)),
       ) in
-      Iff·trans shared (Iff·trans (Iff·symm (cycle_met s t)) (Iff·symm (cycle_any_length s sized t l)))
+      Iff.trans shared (Iff.trans (Iff.symm (cycle_met s t)) (Iff.symm (cycle_any_length s sized t l)))

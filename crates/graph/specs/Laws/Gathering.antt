@@ -1,12 +1,12 @@
 -- Near ones, and those near any found, until there are no more: all to which a way leads.
 use Rattle.std.specs.Prelude.{ℕ, zero, suc, ◌<◌, ◌≡◌, refl, not, ◌&&◌, ◌||◌, ◌↔◌, ◌⊎◌, eqb}
 use Rattle.std.proofs.Common.{sym, subst, inl, inr, ⊎_elim}
-use Rattle.std.proofs.Math.Logic.{Iff·symm}
 use Rattle.bitset.specs.Bitset.{has, Members, In, Holds}
 use Rattle.bitset.specs.Laws.{nobody_in, in_union, in_single, in_rest, part_less, holds_same}
 use Rattle.store.specs.Dependency.{Way, Leads, Predecessor, Successor}
 use Rattle.store.specs.Laws.Ways.{widened, onward, last_departure, predecessor_reversed}
 use Rattle.graph.specs.Edges.{Near, Reversed}
+use mathlib.Core.Logic.Iff
 
 -- From t, through others alone.
 module _ (Edge : ℕ → ℕ → Type 0) (others t : ℕ) where
@@ -116,4 +116,4 @@ pub predecessors_gathered : (Edge : ℕ → ℕ → Type 0) (finished t found : 
     → Holds found (Successor (Reversed Edge) (In finished) t)
     → Holds found (Predecessor Edge (In finished) t)
 predecessors_gathered Edge finished t found successors =
-    holds_same _ _ found successors (λ u. Iff·symm (predecessor_reversed Edge (In finished) t u))
+    holds_same _ _ found successors (λ u. Iff.symm (predecessor_reversed Edge (In finished) t u))

@@ -1,17 +1,17 @@
 -- Near predecessors and successors, collected in a walk; who has none.
 use Rattle.std.specs.Prelude.{ℕ, ◌≡◌, refl, true, ◌&&◌, ◌||◌, ◌↔◌, ◌⊎◌, List, eqb, get_or}
 use Rattle.std.proofs.Common.{sym, subst, inl, inr, ⊎_elim, eq-eqb, eqb-true}
-use Rattle.std.proofs.Math.Logic.{Iff·rfl}
 use Rattle.bitset.specs.Bitset.{has, Members, In, Holds}
 use Rattle.bitset.specs.Laws.{nobody_in, some_member, in_union, in_meet, in_single, holds_empty}
 use Rattle.graph.specs.Edges.{EdgeIn, Near, Reversed}
+use mathlib.Core.Logic.Iff
 
 abbrev pub Depends : List ℕ → ℕ → Type 0
 Depends sets t = (u : ℕ) × EdgeIn sets t u
 
 pub nobody : (set found : ℕ) → found ≡ set → (eqb found 0 ≡ true) ↔ ((u : ℕ) → In set u → ⊥)
 nobody set found e =
-    let none = holds_empty (In set) found (λ u. subst (λ (x : ℕ). In found u ↔ In x u) e Iff·rfl) in
+    let none = holds_empty (In set) found (λ u. subst (λ (x : ℕ). In found u ↔ In x u) e Iff.rfl) in
     (λ z. none.0 (eqb-true found 0 z), λ empty. eq-eqb found 0 (none.1 empty))
 
 pub somebody : (set : ℕ) → (((u : ℕ) → In set u → ⊥) → ⊥) → (u : ℕ) × In set u

@@ -29,7 +29,7 @@ stops c =
     (collecting_stops called.before.before.loop.invariant called.before.loop-test.true
     (known told called.read_number.ensures))
 
-cast_into : tie.Need-overflow-cast-into invariant_loop decreases_loop
+cast_into : tie.Need-overflow_cast-into invariant_loop decreases_loop
 cast_into c =
     let read = c.before in
     omega (arith, number_small (known read.read.given.1 read.before.before.read_number.ensures))

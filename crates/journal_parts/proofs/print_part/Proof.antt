@@ -20,7 +20,7 @@ module _ (c : tie.After-list invariant_loop decreases_loop) where
   within : loop.loop.at + c.list.result.at ≤ length part
   within = going_on part loop.loop.at c.list.result.at loop.loop.inv.0 c.list.ensures.within
 
-add_end : tie.Need-overflow-add-end invariant_loop decreases_loop
+add_end : tie.Need-overflow_add-end invariant_loop decreases_loop
 add_end c = omega (arith, within c.before.before)
 
 written : tie.Need-slice-aggregate-print invariant_loop decreases_loop

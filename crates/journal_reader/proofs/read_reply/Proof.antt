@@ -31,7 +31,7 @@ wrong c arguments =
     (bad_code start.args.letter start.args.operations start.args.numbers.now arguments
     (replies called.before) _ (known told called.read-code.ensures))
 
-cast_code : tie.Need-overflow-cast-code
+cast_code : tie.Need-overflow_cast-code
 cast_code c =
     let read = c.before in
     let called = read.before.before in

@@ -38,7 +38,7 @@ returns_2 c =
 abbrev read_of : tie.After-known-told2 invariant_loop decreases_loop → tie.After-next invariant_loop decreases_loop
 read_of c = c.before.before.before.before
 
-sub_if1 : tie.Need-overflow-sub-if1 invariant_loop decreases_loop
+sub_if1 : tie.Need-overflow_sub-if1 invariant_loop decreases_loop
 sub_if1 c = let at_loop = (read_of c).before in omega (arith, kept at_loop.loop.inv, at_loop.loop.inv.fits)
 
 same_length_3 : tie.Need-same-length-3 invariant_loop decreases_loop

@@ -7,7 +7,7 @@ use Rattle.letters.specs.Laws.{batch_operations, one_answer}
 use Rattle.letters.proofs.answer_count.Statement.{statement}
 use Rattle.letters.proofs.answer_count.Tie as tie
 
-mul_result : tie.Need-overflow-mul-result
+mul_result : tie.Need-overflow_mul-result
 mul_result c =
     let start = c.before in
     omega (arith, batch_operations start.args.letter start.args.operations c.if1.true start.requires)

@@ -68,7 +68,7 @@ module _ (c : tie.After-put-reply) where
 tab_written : tie.Need-slice-write-out-2
 tab_written c = omega (arith, tab_within c.before.before, numbers_kept c.before.before)
 
-add_put_reply : tie.Need-overflow-add-put-reply
+add_put_reply : tie.Need-overflow_add-put-reply
 add_put_reply c = omega (arith, tab_within c.before.before.before, (start c.before.before.before).good.0.0)
 
 put_reply_requires : tie.Need-put-reply-requires
@@ -87,7 +87,7 @@ put_reply_requires c κs =
 end_written : tie.Need-slice-write-out-3
 end_written c = omega (arith, end_within c.before.before, reply_kept c.before.before)
 
-add_result : tie.Need-overflow-add-result
+add_result : tie.Need-overflow_add-result
 add_result c = omega (arith, end_within c.before.before, (start (tab c.before.before)).good.0.0)
 
 same_length : tie.Need-same-length

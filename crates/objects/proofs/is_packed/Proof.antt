@@ -26,16 +26,16 @@ returns c =
     (packed_range start.args.book.now start.args.object _ _
     c.before.before.before.object-kind.ensures c.before.before.row_count.ensures p))
 
-mul_free : tie.Need-overflow-mul-free
+mul_free : tie.Need-overflow_mul-free
 mul_free c = omega (arith, (ranged c.before).rows, c.object-start.ensures)
 
-add_free_2 : tie.Need-overflow-add-free-2
+add_free_2 : tie.Need-overflow_add-free-2
 add_free_2 c = omega (arith, (ranged c.before).rows, c.object-start.ensures)
 
-mul_is_zero : tie.Need-overflow-mul-is-zero
+mul_is_zero : tie.Need-overflow_mul-is-zero
 mul_is_zero c = omega (arith, (ranged c.before).rows, c.object-start.ensures)
 
-sub_is_zero : tie.Need-overflow-sub-is-zero
+sub_is_zero : tie.Need-overflow_sub-is-zero
 sub_is_zero c = omega (arith, (ranged c.before).rows, c.object-start.ensures)
 
 part_is_zero_start : tie.Need-slice-bounds-is-zero-start

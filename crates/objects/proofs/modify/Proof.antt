@@ -29,16 +29,16 @@ found c = sym c.before.present.ensures ∙ c.if1.true
 below : (c : tie.Then1) → c.before.before.before.position.result < word (part c.before) 1
 below c = let p = c.before in within (part p) (start p).args.key _ (here p) (found c)
 
-mul_part : tie.Need-overflow-mul-part
+mul_part : tie.Need-overflow_mul-part
 mul_part c = omega (arith, below c, (start c.before).requires.rows)
 
-add_part : tie.Need-overflow-add-part
+add_part : tie.Need-overflow_add-part
 add_part c = omega (arith, below c, (start c.before).requires.rows)
 
-add_part_2 : tie.Need-overflow-add-part-2
+add_part_2 : tie.Need-overflow_add-part-2
 add_part_2 c = omega (arith, below c, (start c.before).requires.rows)
 
-mul_part_2 : tie.Need-overflow-mul-part-2
+mul_part_2 : tie.Need-overflow_mul-part-2
 mul_part_2 c = omega (arith, below c, (start c.before).requires.rows)
 
 slice_write_part : tie.Need-slice-write-part

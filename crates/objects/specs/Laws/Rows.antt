@@ -1,7 +1,6 @@
 -- The form of an object's rows, by what is tested: their second words, neighbouring keys and the kind.
 use Rattle.std.specs.Prelude.{ℕ, zero, suc, ◌+◌, ◌≤◌, ◌<◌, ◌≡◌, refl, Bool, true, false, ◌||◌, ◌↔◌, List, eqb, leb, ltb}
 use Rattle.std.proofs.Common.{ap, sym, ◌∙◌, subst, true≢false, not-suc-le-zero, arith, below_none, below_more, ltb-true, lt-ltb, leb-false}
-use Rattle.std.proofs.Math.Logic.{Iff·trans}
 use Rattle.std.proofs.Math.Option.{some, none-ne-some}
 use Rattle.std.proofs.lemmas.Bool.{lt-leb}
 use Rattle.std.specs.Int.Bits.{bit_or}
@@ -15,6 +14,7 @@ use Rattle.store.specs.Laws.Words.{below}
 use Rattle.store.specs.Laws.Reading.{object_read, kind_below}
 use Rattle.layout.specs.Laws.{Seen, seen_next, seen_all}
 use Rattle.objects.specs.Objects.{KeyedRows, ObjectFormed}
+use mathlib.Core.Logic.Iff
 
 -- ---- Second words: their union is 0 exactly where each is
 
@@ -105,7 +105,7 @@ module _ (w : List ℕ) (o k : ℕ) (number : k ≡ word w (object_start o)) whe
   as_stack e = of_kind_lem Stack (ap read_kind e)
 
   pub as_set : k ≡ 2 → (All NoValue (rows_at w o) × KeyedRows (rows_at w o)) ↔ ObjectFormed w o
-  as_set e = Iff·trans (λ h. (h.0, h.1.0, h.1.1), λ h. (h.0, (h.1, h.2))) (of_kind_lem Set (ap read_kind e))
+  as_set e = Iff.trans (λ h. (h.0, h.1.0, h.1.1), λ h. (h.0, (h.1, h.2))) (of_kind_lem Set (ap read_kind e))
 
   pub as_table_lem : k ≡ 3 → KeyedRows (rows_at w o) ↔ ObjectFormed w o
   as_table_lem e = of_kind_lem Table (ap read_kind e)

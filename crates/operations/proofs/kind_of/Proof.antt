@@ -29,10 +29,10 @@ summed n =
     let l = ltb-false 3 n e in
     rw (e, le-ltb 6 n (omega arith), numbered_stack n l) refl)
 
-add_result : tie.Need-overflow-add-result
+add_result : tie.Need-overflow_add-result
 add_result c = omega (arith, at_most_one (ltb 3 c.args.number))
 
-add_result_2 : tie.Need-overflow-add-result-2
+add_result_2 : tie.Need-overflow_add-result-2
 add_result_2 c =
     let n = c.args.number in
     omega (arith, at_most_one (ltb 3 n), at_most_one (ltb 6 n))

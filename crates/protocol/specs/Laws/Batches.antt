@@ -2,7 +2,6 @@
 -- sound.
 use Rattle.std.specs.Prelude.{ℕ, zero, suc, ◌+◌, ◌≤◌, ◌<◌, ◌≡◌, refl, Bool, true, false, ◌↔◌, ◌⊎◌, List, [], ◌∷◌, ◌++◌, length, get_or, take}
 use Rattle.std.proofs.Common.{sym, ap, ap₂, ◌∙◌, subst, true≢false, inl, inr, ⊎_elim, append-nil, arith, leb-true, leb-false, length-append}
-use Rattle.std.proofs.Math.Logic.{Iff·rfl, Iff·trans, Iff·and}
 use Rattle.std.proofs.Math.Seq.{append_snoc}
 use Rattle.operations.specs.Operations.{Operation, Answer, All, answer, next, reduce_key, answering}
 use Rattle.operations.specs.Log.{Entry, after}
@@ -28,6 +27,7 @@ use Rattle.protocol.specs.Laws.Waiting.{owned, own_last, none_owned}
 use Rattle.protocol.specs.Laws.Reasons.{request_reduced, batch_accepted}
 use Rattle.protocol.specs.Laws.Keeping.{on_last, entered_sound}
 use Rattle.protocol.specs.Laws.Protocol.{Behind, ordered_last, answered_none, batch_responded}
+use mathlib.Core.Logic.Iff
 
 module _ (t : ℕ) where
   -- Whom one of them waits for.
@@ -91,8 +91,8 @@ module _ (t : ℕ) where
       ↔ All (λ (q : LentOperation). All (Passes t (requested base q)) (on_object q.object s.log)) qs
   free_each s [] = (λ e. tt, λ a. refl)
   free_each s (q ∷ qs) =
-      Iff·trans (free_first s q qs)
-      (Iff·and (none_owned t (requested base q) (on_object q.object s.log)) (free_each s qs))
+      Iff.trans (free_first s q qs)
+      (Iff.and (none_owned t (requested base q) (on_object q.object s.log)) (free_each s qs))
 
   -- ---- Kept
 
@@ -144,7 +144,7 @@ module _ (t : ℕ) where
 
     not_behind_own : (log : List Logged) (last : Logged) → (last.entry.transaction ≡ b → ⊥)
         → (qs : List LentOperation) → BehindSome (log ++ (last ∷ [])) qs ↔ BehindSome log qs
-    not_behind_own log last own [] = Iff·rfl
+    not_behind_own log last own [] = Iff.rfl
     not_behind_own log last own (q ∷ qs) =
         let here = any_append (Behind q.object (requested base q) b) log (last ∷ []) in
         let rest = not_behind_own log last own qs in (

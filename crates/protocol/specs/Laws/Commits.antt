@@ -2,7 +2,6 @@
 -- commits leave.
 use Rattle.std.specs.Prelude.{ℕ, zero, suc, ◌≡◌, refl, true, false, ◌↔◌, ◌⊎◌, List, [], ◌∷◌, ◌++◌, eqb, get_or}
 use Rattle.std.proofs.Common.{sym, ap, ◌∙◌, subst, inl, inr, ⊎_elim, append_assoc, append-nil, le_refl, eq-eqb, ne_eqb}
-use Rattle.std.proofs.Math.Logic.{Iff·trans}
 use Rattle.std.proofs.Math.Option.{some}
 use Rattle.operations.specs.Operations.{Kind, Row, Operation, Answer, reduce_key, next}
 use Rattle.operations.specs.Log.{Entry, only, one, others, after}
@@ -25,6 +24,7 @@ use Rattle.protocol.specs.Laws.Ending.{Left, ended_left, commit_left, commit_ord
 use Rattle.protocol.specs.Laws.Ending.{commit_rows}
 use Rattle.protocol.specs.Laws.Settling.{all_settle, settled_kept}
 use Rattle.protocol.specs.Laws.Protocol.{ready_leads_nowhere}
+use mathlib.Core.Logic.Iff
 
 -- ---- Ways of dependencies
 
@@ -163,7 +163,7 @@ module _ (s : Store) (t : ℕ) (own : List ℕ) (x : Store) (e : Ends s t own x)
   order_on u v p q i j before-u before-v after-u after-v =
       let a = (h.gone u (i, after-u)).0 in
       let b = (h.gone v (j, after-v)).0 in
-      Iff·trans (h.order u v a.0 b.0 i j a.1 b.1 after-u after-v)
+      Iff.trans (h.order u v a.0 b.0 i j a.1 b.1 after-u after-v)
       (e.order u v p q a.0 b.0 before-u before-v a.1 b.1)
 
   pub kinds_on : (o : ℕ) → (object_of r.store o).kind ≡ (object_of s o).kind

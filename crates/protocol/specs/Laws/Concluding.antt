@@ -1,7 +1,6 @@
 -- What finish and cancel leave where the reply counts those that committed.
 use Rattle.std.specs.Prelude.{ℕ, ◌<◌, ◌≤◌, ◌≡◌, refl, ◌↔◌, ◌⊎◌, List, [], ◌∷◌, ◌++◌, length, take, drop}
 use Rattle.std.proofs.Common.{sym, ap, ◌∙◌, subst, inl, inr, ⊎_elim, arith}
-use Rattle.std.proofs.Math.Logic.{Iff·trans}
 use Rattle.std.proofs.Math.Option.{Option, none, some, none-ne-some, some-injective}
 use Rattle.std.proofs.Math.Seq.{take-append_seam}
 use Rattle.operations.specs.Operations.{Kind, next}
@@ -29,6 +28,7 @@ use Rattle.protocol.specs.Laws.Settling.{commit_count, settled_few, settled_kept
 use Rattle.protocol.specs.Laws.Protocol.{clash, finish_by, finishing, cancelling}
 use Rattle.protocol.specs.Laws.Commits.{without_twice, Ends, aborts, commits, Settles, over, order_on, kinds_on}
 use Rattle.protocol.specs.Laws.Commits.{rows_on, log_on, all_commits, settles_exactly}
+use mathlib.Core.Logic.Iff
 
 -- Without the transaction's entries, a way of dependencies leads from u to an active one other than it.
 abbrev Held : Store → ℕ → ℕ → Type 0
@@ -128,7 +128,7 @@ module _ (s : Store) (t : ℕ) (list : List ℕ) (r : Served) (n : ℕ) (c : End
   pub active_exactly : (u : ℕ) → Active later u ↔ ((u ≡ t → ⊥) × Active s u)
   active_exactly u =
       subst (λ (x : Store). Active x u ↔ ((u ≡ t → ⊥) × Active s u)) (sym c.store)
-      (Iff·trans (settles.active u) (c.ends.left.active u))
+      (Iff.trans (settles.active u) (c.ends.left.active u))
 
   -- ---- The list
 

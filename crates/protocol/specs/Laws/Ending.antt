@@ -2,7 +2,6 @@
 -- hold it.
 use Rattle.std.specs.Prelude.{ℕ, ◌+◌, ◌≤◌, ◌<◌, ◌≡◌, refl, Bool, true, false, ◌↔◌, List, [], ◌∷◌, eqb, length, get_or}
 use Rattle.std.proofs.Common.{sym, ap, ◌∙◌, subst, le_refl, arith, eqb-true}
-use Rattle.std.proofs.Math.Logic.{Iff·rfl, Iff·trans}
 use Rattle.std.proofs.Math.Option.{some, some-injective}
 use Rattle.std.proofs.Math.ListN.{get_or-eq_default}
 use Rattle.operations.specs.Operations.{Kind, Stack, Row, Answer, Operation, kind_of, reduce_key, next, WellFormed, All}
@@ -33,6 +32,7 @@ use Rattle.protocol.specs.Ending.{carried_out, ended, commit}
 use Rattle.protocol.specs.Laws.Ranks.{SameOrder, closed_any, ended_order, ended_once, ended_gapless}
 use Rattle.protocol.specs.Laws.Carrying.{carried_status, carried_log, carried_kind, carried_objects, carried_rows}
 use Rattle.protocol.specs.Laws.Carrying.{carried_representable}
+use mathlib.Core.Logic.Iff
 
 -- ---- Some of one object's entries
 
@@ -125,8 +125,8 @@ module _ (s : Store) (t : ℕ) where
 
     ended_status : P (status_of (ended t s) u) ↔ ((u ≡ t → ⊥) × P (status_of s u))
     ended_status =
-        Iff·trans
-        (closed_any (λ (x : Store). P (status_of x u) ↔ P (status_of removed u)) removed Iff·rfl
+        Iff.trans
+        (closed_any (λ (x : Store). P (status_of x u) ↔ P (status_of removed u)) removed Iff.rfl
         (λ out. subst (λ (x : Status). P x ↔ P (status_of removed u)) (sym (status_closed removed out u))
         (any-rank out (status_of removed u))) (status_of s t))
         others_status
@@ -165,13 +165,13 @@ module _ (s : Store) (t : ℕ) where
 -- ---- What either leaves
 
 lowered_live : (out : ℕ) (x : Status) → (lowered out x ≡ absent → ⊥) ↔ (x ≡ absent → ⊥)
-lowered_live out absent = Iff·rfl
-lowered_live out active = Iff·rfl
+lowered_live out absent = Iff.rfl
+lowered_live out active = Iff.rfl
 lowered_live out (pseudo_committed rank) = (λ n e. absent_unranked rank (sym e), λ n e. absent_unranked _ (sym e))
 
 lowered_active : (out : ℕ) (x : Status) → (lowered out x ≡ active) ↔ (x ≡ active)
-lowered_active out absent = Iff·rfl
-lowered_active out active = Iff·rfl
+lowered_active out absent = Iff.rfl
+lowered_active out active = Iff.rfl
 lowered_active out (pseudo_committed rank) =
     (λ e. absurd (active_unranked _ (sym e)), λ e. absurd (active_unranked _ (sym e)))
 
@@ -179,8 +179,8 @@ abbrev Ranked : Status → Type 0
 Ranked x = (rank : ℕ) × (x ≡ pseudo_committed rank)
 
 lowered_ranked : (out : ℕ) (x : Status) → Ranked (lowered out x) ↔ Ranked x
-lowered_ranked out absent = Iff·rfl
-lowered_ranked out active = Iff·rfl
+lowered_ranked out absent = Iff.rfl
+lowered_ranked out active = Iff.rfl
 lowered_ranked out (pseudo_committed rank) = (λ p. (rank, refl), λ p. (_, refl))
 
 -- A store that the transaction leaves when it ends, by abort or by commit: without its entries, and the others live,

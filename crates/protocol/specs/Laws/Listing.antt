@@ -4,13 +4,14 @@ use Rattle.std.specs.Prelude.{◌≡◌, true, false, ◌↔◌}
 use Rattle.std.proofs.Common.{sym, ◌∙◌}
 use Rattle.std.proofs.Math.Path.{ap}
 use Rattle.std.proofs.Math.Bool.{true≢false}
-use Rattle.std.proofs.Math.Logic.{inl, inr, ⊎_elim, Iff·trans}
+use Rattle.std.proofs.Math.Logic.{inl, inr, ⊎_elim}
 use native.Mathlib.Omega.{arith}
 use Rattle.operations.specs.Operations.{All}
 use Rattle.operations.specs.Laws.Cases.{split, same, all_map}
 use Rattle.bitset.specs.Bitset.{has, In, Holds, members_from, members}
 use Rattle.bitset.specs.Laws.{member_below, below_64}
 use Rattle.protocol.specs.Terms.{Among, Ascends}
+use mathlib.Core.Logic.Iff
 
 module _ (s : ℕ) where
   abbrev From : ℕ → ℕ → ℕ → Type 0
@@ -68,4 +69,4 @@ pub listed_as : (P : ℕ → Type 0) (s : ℕ) → Holds s P → ((u : ℕ) → 
     → (s < 2 ^ 64) × ((u : ℕ) → Among u (members s) ↔ P u) × Ascends (members s)
 listed_as P s holds below =
     let few = below_64 s (λ u m. below u ((holds u).0 m)) in
-    (few, λ u. Iff·trans (listed s few u) (holds u), ascend s)
+    (few, λ u. Iff.trans (listed s few u) (holds u), ascend s)

@@ -3,7 +3,6 @@ use Rattle.std.specs.Prelude.{ℕ, zero, suc, ◌+◌, ◌≤◌, ◌<◌, ◌�
 use Rattle.std.proofs.Common.{sym, ap, ◌∙◌, subst, inl, inr, ⊎_elim, arith}
 use Rattle.std.proofs.lemmas.Bool.{false≢true}
 use Rattle.std.proofs.Math.Bool.{decide, decide_iff}
-use Rattle.std.proofs.Math.Logic.{Iff·trans}
 use Rattle.operations.specs.Operations.{Operation, Answer}
 use Rattle.operations.specs.PairRules.{commutes}
 use Rattle.bitset.specs.Bitset.{size}
@@ -28,6 +27,7 @@ use Rattle.protocol.specs.Laws.Reasons.{unless_accepted, operate_accepted, end_a
 use Rattle.protocol.specs.Calls.{LentOperation, lent_operation, operations_in, unless, owners, request, requested}
 use Rattle.protocol.specs.Calls.{answer_to, answers_to, awaited, respond, finish_active, batch_reason, batch}
 use Rattle.protocol.specs.Calls.{operate_reason, operate, end_reason, finish, cancel, concluded}
+use mathlib.Core.Logic.Iff
 
 -- Two constructors are not the same.
 pub clash : {A : Type 0} → ◌≡◌ {A = ℕ} 0 1 → A
@@ -136,7 +136,7 @@ pub ordered_last : (x b : ℕ) (last : Logged) (log : List Logged)
     ↔ (DependsOn log x b
     ⊎ ((x ≡ last.entry.transaction) × (x ≡ b → ⊥) × Any (Behind last.object last.entry.operation b) log))
 ordered_last x b last log =
-    Iff·trans (depends_appended x b last log) (
+    Iff.trans (depends_appended x b last log) (
       ⊎_elim inl (λ p. inr ((behind x b last log).0 p)),
       ⊎_elim inl (λ p. inr ((behind x b last log).1 p)),
     )

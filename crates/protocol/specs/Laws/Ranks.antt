@@ -1,7 +1,6 @@
 -- Ranks are 0, 1, 2 and on, as many as there are pseudo_committed_lem transactions, and stay so when one has ended.
 use Rattle.std.specs.Prelude.{ℕ, zero, suc, ◌+◌, ◌-◌, ◌<◌, ◌≤◌, ◌≡◌, refl, true, false, cond, ◌↔◌, List, [], ◌∷◌, map, ltb, length, get_or, set}
 use Rattle.std.proofs.Common.{sym, ap, ◌∙◌, not-suc-le-zero, lt_of_not-le, arith, ltb-true, ltb-false, lt-ltb, le-ltb}
-use Rattle.std.proofs.Math.Logic.{Iff·rfl}
 use Rattle.operations.specs.Laws.Cases.{split, same}
 use Rattle.store.specs.Store.{Status, absent, active, pseudo_committed, Store, status_of, Active, PseudoCommitted}
 use Rattle.store.specs.Store.{pseudo_committed_in, pseudo_committed_count}
@@ -11,6 +10,7 @@ use Rattle.store.specs.Steps.{dropped, with_status, lowered, closed_up}
 use Rattle.store.specs.Laws.Statuses.{absent_unranked, active_unranked, same_rank}
 use Rattle.store.specs.Laws.Changes.{status_other, status_removed, status_closed}
 use Rattle.protocol.specs.Ending.{closed_after, ended}
+use mathlib.Core.Logic.Iff
 
 -- ---- One rank taken out
 
@@ -78,7 +78,7 @@ pub order_itself : (s : Store) → SameOrder s s
 order_itself s u v p q i j e f g h =
     let before-u : p ≡ i = same_rank p i (sym e ∙ g) in
     let before-v : q ≡ j = same_rank q j (sym f ∙ h) in
-    rw (before-u, before-v) Iff·rfl
+    rw (before-u, before-v) Iff.rfl
 
 module _ (s : Store) (t : ℕ) where
   abbrev left : Store

@@ -4,7 +4,6 @@ use Rattle.std.proofs.Common.{sym, ap, ◌∙◌, subst, true≢false, inl, inr,
 use Rattle.std.proofs.Math.Bool.{decide_iff, and-eq-true_iff}
 use Rattle.std.proofs.lemmas.Bool.{false≢true, lt-leb, eqb-false, not-true, not-false}
 use mathlib.Mathlib.Data.Bool.Basic.{or-eq-false-eq-eq-false-and-eq-false}
-use Rattle.std.proofs.Math.Logic.{Iff·rfl, Iff·trans, Iff·and}
 use Rattle.std.proofs.Math.Option.{Option, none, some, none-ne-some}
 use Rattle.std.proofs.Math.ListN.{get_or-eq_default}
 use Rattle.operations.specs.Operations.{Kind, Stack, Set, Table, Operation, kind_of, numbered, stored, reduce_key, All}
@@ -30,6 +29,7 @@ use Rattle.protocol.specs.Calls.{end_reason, contents_reason}
 use Rattle.protocol.specs.Terms.{BeginAccepted, ContentsAccepted, EndAccepted, OperateAccepted, SetUpAccepted}
 use Rattle.protocol.specs.Terms.{OperationAccepted, EachAccepted, BatchPremises, BatchAccepted}
 use Rattle.protocol.specs.Terms.{Has8, Has9, HasNeither, FirstOwn}
+use mathlib.Core.Logic.Iff
 
 -- ---- The first reason that applies
 
@@ -107,7 +107,7 @@ before_others n [] later applies numbers = (
   λ e. absurd (eqb-false (first later) n (first_other n later numbers applies) e),
   λ e. absurd (eqb-false 0 n applies e),
 )
-before_others n ((number, true) ∷ tests) later applies numbers = Iff·rfl
+before_others n ((number, true) ∷ tests) later applies numbers = Iff.rfl
 before_others n ((number, false) ∷ tests) later applies numbers = before_others n tests later applies numbers
 
 -- where all have it, exactly where one applies.
@@ -495,22 +495,22 @@ module _ (format : Format) where
           → (batch_reason format whether_sound w t operations ≡ n)
           ↔ (BatchPremises format w t operations × (first (own_reasons s qs ++ limiting format t s qs) ≡ n))
       past_premises n given =
-          Iff·trans (past_others n (preliminary t operations) (own_reasons s qs ++ limiting format t s qs) (
+          Iff.trans (past_others n (preliminary t operations) (own_reasons s qs ++ limiting format t s qs) (
             apart 1 n refl given,
             (
               apart 4 n refl given,
               (apart 5 n refl given, (apart 12 n refl given, (apart 7 n refl given, tt))),
             ),
           ))
-          (Iff·and (premises t operations) Iff·rfl)
+          (Iff.and (premises t operations) Iff.rfl)
 
       -- An own reason is the number exactly where the first of them is.
       pub own_reason : (n : ℕ) → of_operation n ≡ true → eqb 10 n ≡ false → eqb 11 n ≡ false
           → (batch_reason format whether_sound w t operations ≡ n)
           ↔ (BatchPremises format w t operations × (first (own_reasons s qs) ≡ n))
       own_reason n given n10 n11 =
-          Iff·trans (past_premises n given)
-          (Iff·and Iff·rfl (before_others n (own_reasons s qs) (limiting format t s qs) (apart 0 n refl given)
+          Iff.trans (past_premises n given)
+          (Iff.and Iff.rfl (before_others n (own_reasons s qs) (limiting format t s qs) (apart 0 n refl given)
           (limiting_numbers format t (λ number. eqb number n ≡ false) n10 n11 s qs)))
 
       abbrev log_limits : List (ℕ × Bool)
@@ -524,18 +524,18 @@ module _ (format : Format) where
           → (batch_reason format whether_sound w t operations ≡ n)
           ↔ (BatchPremises format w t operations × (All (HasNeither s) qs × (first (log_limits ++ row_limits) ≡ n)))
       past_own n given n8 n9 =
-          Iff·trans (past_premises n given)
-          (Iff·and Iff·rfl (Iff·trans (past_others n (own_reasons s qs) (limiting format t s qs)
-          (own_numbers (λ number. eqb number n ≡ false) n8 n9 s qs)) (Iff·and (own_none s qs) Iff·rfl)))
+          Iff.trans (past_premises n given)
+          (Iff.and Iff.rfl (Iff.trans (past_others n (own_reasons s qs) (limiting format t s qs)
+          (own_numbers (λ number. eqb number n ≡ false) n8 n9 s qs)) (Iff.and (own_none s qs) Iff.rfl)))
 
       -- The limit on the log is met;
       pub log_reason : (batch_reason format whether_sound w t operations ≡ 10)
           ↔ (BatchPremises format w t operations
           × (All (HasNeither s) qs × Any (λ (reason : ℕ × Bool). reason.1 ≡ true) log_limits))
       log_reason =
-          Iff·trans (past_own 10 refl refl refl)
-          (Iff·and Iff·rfl (Iff·and Iff·rfl
-          (Iff·trans (before_others 10 log_limits row_limits refl
+          Iff.trans (past_own 10 refl refl refl)
+          (Iff.and Iff.rfl (Iff.and Iff.rfl
+          (Iff.trans (before_others 10 log_limits row_limits refl
           (limit_numbers format t (λ number. eqb number 10 ≡ false) 11 refl (crowded format t) s qs))
           (numbered_exactly 10 log_limits refl
           (limit_numbers format t (λ number. number ≡ 10) 10 refl (full format t) s qs)))))
@@ -546,11 +546,11 @@ module _ (format : Format) where
           × ((Any (λ (reason : ℕ × Bool). reason.1 ≡ true) log_limits → ⊥)
           × Any (λ (reason : ℕ × Bool). reason.1 ≡ true) row_limits)))
       row_reason =
-          Iff·trans (past_own 11 refl refl refl)
-          (Iff·and Iff·rfl (Iff·and Iff·rfl
-          (Iff·trans (past_others 11 log_limits row_limits
+          Iff.trans (past_own 11 refl refl refl)
+          (Iff.and Iff.rfl (Iff.and Iff.rfl
+          (Iff.trans (past_others 11 log_limits row_limits
           (limit_numbers format t (λ number. eqb number 11 ≡ false) 10 refl (full format t) s qs))
-          (Iff·and (silent_any log_limits, none_any log_limits) (numbered_exactly 11 row_limits refl
+          (Iff.and (silent_any log_limits, none_any log_limits) (numbered_exactly 11 row_limits refl
           (limit_numbers format t (λ number. number ≡ 11) 11 refl (crowded format t) s qs))))))
 
     pub batch_accepted : (t : ℕ) (operations : List ℕ) → batch_reason format whether_sound w t operations ≡ 0

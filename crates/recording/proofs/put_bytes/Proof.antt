@@ -16,7 +16,7 @@ decreases_loop numbers₀ bytes i₀ i-end numbers i = length bytes - i
 loop_holds : tie.Need-loop-init invariant_loop decreases_loop
 loop_holds c = copying_starts c.args.numbers.now 0 c.args.bytes.now
 
-byte_fits : tie.Need-overflow-cast-numbers invariant_loop decreases_loop
+byte_fits : tie.Need-overflow_cast-numbers invariant_loop decreases_loop
 byte_fits c = omega (arith, c.shared-slice-known.given c.before.before.loop.i)
 
 fits : (c : tie.At-loop invariant_loop decreases_loop)

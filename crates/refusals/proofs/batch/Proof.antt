@@ -76,7 +76,7 @@ own_reason c =
 entry_count_requires : tie.Need-entry-count-requires
 entry_count_requires c κs = (is_sound c.before.before).packed.words
 
-add_if3 : tie.Need-overflow-add-if3
+add_if3 : tie.Need-overflow_add-if3
 add_if3 c =
     let past = c.before.before.before in
     let packed = (is_sound past).packed in

@@ -17,19 +17,19 @@ decreases_loop book operations i₀ i-end i = length operations / 4 - i
 loop_holds : tie.Need-loop-init invariant_loop decreases_loop
 loop_holds c = (omega arith, refl)
 
-mul_start : tie.Need-overflow-mul-start invariant_loop decreases_loop
+mul_start : tie.Need-overflow_mul-start invariant_loop decreases_loop
 mul_start c = search rules
 
-mul_own : tie.Need-overflow-mul-own invariant_loop decreases_loop
+mul_own : tie.Need-overflow_mul-own invariant_loop decreases_loop
 mul_own c = search rules
 
 shared_slice_read_own : tie.Need-shared-slice-read-own invariant_loop decreases_loop
 shared_slice_read_own c = search rules
 
-add_own : tie.Need-overflow-add-own invariant_loop decreases_loop
+add_own : tie.Need-overflow_add-own invariant_loop decreases_loop
 add_own c = search rules
 
-mul_own_2 : tie.Need-overflow-mul-own-2 invariant_loop decreases_loop
+mul_own_2 : tie.Need-overflow_mul-own-2 invariant_loop decreases_loop
 mul_own_2 c = search rules
 
 shared_slice_read_own_2 : tie.Need-shared-slice-read-own-2 invariant_loop decreases_loop
@@ -45,7 +45,7 @@ returns c =
     own_found start.args.operations.now start.args.book.now loop.before.loop.i loop.loop-test.true
     loop.before.loop.invariant.1 _ c.before.own.ensures c.if1.true
 
-add_i : tie.Need-overflow-add-i invariant_loop decreases_loop
+add_i : tie.Need-overflow_add-i invariant_loop decreases_loop
 add_i c = search rules
 
 loop_less : tie.Need-loop-smaller invariant_loop decreases_loop

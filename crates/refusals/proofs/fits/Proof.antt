@@ -51,7 +51,7 @@ used_there c =
     let start = begin (in_loop c.before.before.before) in
     c.used.ensures ∙ ap (base.used (decode base start.args.book.now)) c.before.wide.ensures
 
-add_if2 : tie.Need-overflow-add-if2 invariant_loop decreases_loop
+add_if2 : tie.Need-overflow_add-if2 invariant_loop decreases_loop
 add_if2 c =
     let in_loop = in_loop (asked c) in
     let start = begin in_loop in

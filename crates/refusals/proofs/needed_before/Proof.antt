@@ -21,7 +21,7 @@ decreases_loop operations count object needed₀ i₀ needed i = count - i
 loop_holds : tie.Need-loop-init invariant_loop decreases_loop
 loop_holds c = (omega arith, omega arith, refl)
 
-add_needed : tie.Need-overflow-add-needed invariant_loop decreases_loop
+add_needed : tie.Need-overflow_add-needed invariant_loop decreases_loop
 add_needed c =
     let in_loop = c.before.before.before.before in
     let start = in_loop.before.before.before in

@@ -14,7 +14,7 @@ inside c =
     found_within start.args.key start.args.rows.now _ start.requires
     (sym c.before.present.ensures ∙ c.if1.true)
 
-mul_t5 : tie.Need-overflow-mul-t5
+mul_t5 : tie.Need-overflow_mul-t5
 mul_t5 c = omega (arith, inside c, c.before.before.well-formed.0)
 
 returns : tie.Need-returns

@@ -20,7 +20,7 @@ inside c =
 slice_aggregate_present : tie.Need-slice-aggregate-present
 slice_aggregate_present c = sym (length-take-le _ _ (fits c.before))
 
-mul_rows : tie.Need-overflow-mul-rows
+mul_rows : tie.Need-overflow_mul-rows
 mul_rows c = omega (arith, inside c)
 
 array_set_from_rows : tie.Need-array-set-from-rows

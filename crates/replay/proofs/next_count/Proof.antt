@@ -28,7 +28,7 @@ present_requires c κs = c.before.before.before.requires.1 (keyed (omega arith) 
 present_requires_2 : tie.Need-present-requires-2
 present_requires_2 c κs = c.before.before.before.requires.1 (keyed (omega arith) (omega arith) c.match.keys4)
 
-sub_result_2 : tie.Need-overflow-sub-result-2
+sub_result_2 : tie.Need-overflow_sub-result-2
 sub_result_2 c =
     nonempty _ _ (fits c.before.before.before.before) _ (sym c.before.present2.ensures ∙ c.if3.true)
 

@@ -27,7 +27,7 @@ filled c = let args = c.before.before.before.args in take args.count args.rows.n
 abbrev key : tie.At-loop invariant_loop decreases_loop → ℕ
 key c = c.before.before.before.args.key
 
-mul_if1 : tie.Need-overflow-mul-if1 invariant_loop decreases_loop
+mul_if1 : tie.Need-overflow_mul-if1 invariant_loop decreases_loop
 mul_if1 c = omega (arith, slice_aggregate_filled c.before.before)
 
 returns : tie.Need-returns invariant_loop decreases_loop
@@ -36,7 +36,7 @@ returns c =
     sym (scan_found (key at_loop) (filled at_loop) at_loop.loop.at c.before.before.loop-test.true
     (omega arith)) ∙ at_loop.loop.invariant.1
 
-add_at : tie.Need-overflow-add-at invariant_loop decreases_loop
+add_at : tie.Need-overflow_add-at invariant_loop decreases_loop
 add_at c = omega (arith, slice_aggregate_filled c.before.before.before.before)
 
 loop_again : tie.Need-loop-preserved invariant_loop decreases_loop

@@ -20,7 +20,7 @@ chain_requires c κs =
     let start = entered test.before in
     (start.pre.0, start.pre.1, new test, start.pre.2)
 
-cast_result : tie.Need-overflow-cast-result
+cast_result : tie.Need-overflow_cast-result
 cast_result c =
     let start = entered c.before.before.before.before in
     omega (arith, start.pre.0.0.entries, start.pre.0.1)

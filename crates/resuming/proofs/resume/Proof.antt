@@ -28,7 +28,7 @@ standing c =
     stands args.bytes.now args.at next.next.result next.next.ensures.0 next.next.ensures.1 small
     c.place2.given.1
 
-onward : tie.Need-overflow-sub-confirms
+onward : tie.Need-overflow_sub-confirms
 onward c = omega (arith, (standing c.before.before).onward)
 
 part_start : tie.Need-slice-bounds-confirms-start

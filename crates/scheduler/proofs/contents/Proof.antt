@@ -50,10 +50,10 @@ few c =
     subst (λ (n : ℕ). n ≤ 64) (sym c.row_count.ensures)
     (rows_few (start past).args.book.now widened.wide.result (within widened) (is_accepted past).sound.packed)
 
-mul_end : tie.Need-overflow-mul-end
+mul_end : tie.Need-overflow_mul-end
 mul_end c = omega (arith, few c)
 
-add_end : tie.Need-overflow-add-end
+add_end : tie.Need-overflow_add-end
 add_end c = omega (arith, few c, within c.before.before, c.before.Rows-start.ensures)
 
 part_end : tie.Need-slice-bounds-result-end-2

@@ -43,7 +43,7 @@ rows c =
     c.row_count.ensures
     ∙ ap (λ (o : ℕ). word (start c.before.before).args.book.now (object_start o + 1)) c.before.wide.ensures
 
-cast : tie.Need-overflow-cast-t7
+cast : tie.Need-overflow_cast-t7
 cast c =
     let past = c.before.before in
     omega (

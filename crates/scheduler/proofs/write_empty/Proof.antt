@@ -31,7 +31,7 @@ loop_holds c =
 inside : tie.Need-shared-slice-read-book invariant_loop decreases_loop
 inside c = omega (arith, c.before.loop-test.true, (start c.before.before).pre.1)
 
-cast : tie.Need-overflow-cast-book invariant_loop decreases_loop
+cast : tie.Need-overflow_cast-book invariant_loop decreases_loop
 cast c =
     let at_loop = c.before.before in
     omega (

@@ -96,13 +96,13 @@ entry_object_requires c κs = readable c
 entry_operation_requires : tie.Need-entry-operation-requires invariant_loop decreases_loop
 entry_operation_requires c κs = readable c.before.before
 
-mul_wide : tie.Need-overflow-mul-wide invariant_loop decreases_loop
+mul_wide : tie.Need-overflow_mul-wide invariant_loop decreases_loop
 mul_wide c = omega (arith, placed (entry c.before))
 
 array_read_wide : tie.Need-array-read-wide invariant_loop decreases_loop
 array_read_wide c = placed (entry c.before)
 
-add_taken : tie.Need-overflow-add-taken invariant_loop decreases_loop
+add_taken : tie.Need-overflow_add-taken invariant_loop decreases_loop
 add_taken c = omega (arith, bounds c)
 
 returns_2 : tie.Need-returns-2 invariant_loop decreases_loop
@@ -110,22 +110,22 @@ returns_2 c =
     let l = (in_loop c.before).before in
     going.go_full (formed (start l)) l.loop.inv (taken c.before) (omega (arith, c.if2.true))
 
-cast_used : tie.Need-overflow-cast-used invariant_loop decreases_loop
+cast_used : tie.Need-overflow_cast-used invariant_loop decreases_loop
 cast_used c = omega (arith, bounds c.before)
 
-mul_used : tie.Need-overflow-mul-used invariant_loop decreases_loop
+mul_used : tie.Need-overflow_mul-used invariant_loop decreases_loop
 mul_used c = omega (arith, placed (entry c.before.before.before.before))
 
 array_write_used : tie.Need-array-write-used invariant_loop decreases_loop
 array_write_used c = placed (entry c.before.before.before.before)
 
-mul_cell : tie.Need-overflow-mul-cell invariant_loop decreases_loop
+mul_cell : tie.Need-overflow_mul-cell invariant_loop decreases_loop
 mul_cell c = omega (arith, readable (in_loop c.before))
 
 element_copy_out_cell : tie.Need-element-copy-out-cell invariant_loop decreases_loop
 element_copy_out_cell c = (readable (in_loop c.before)).1
 
-cast_cell : tie.Need-overflow-cast-cell invariant_loop decreases_loop
+cast_cell : tie.Need-overflow_cast-cell invariant_loop decreases_loop
 cast_cell c =
     let w = in_loop c.before.before in
     let l = w.before in
@@ -147,7 +147,7 @@ returns_3 c =
     let l = (in_loop w).before in
     going.go_wrong (formed (start l)) l.loop.inv (taken w) c.before.serve.ensures c.if3.true
 
-add_i : tie.Need-overflow-add-i invariant_loop decreases_loop
+add_i : tie.Need-overflow_add-i invariant_loop decreases_loop
 add_i c = omega (arith, readable (in_loop (at_serve c.before)))
 
 loop_less : tie.Need-loop-smaller invariant_loop decreases_loop

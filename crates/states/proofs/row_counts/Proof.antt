@@ -23,7 +23,7 @@ inside c = omega (arith, c.loop-test.true)
 row_count_requires : tie.Need-row-count-requires invariant_loop decreases_loop
 row_count_requires c κs = (c.before.before.before.requires.words, inside c)
 
-cast_counts : tie.Need-overflow-cast-counts invariant_loop decreases_loop
+cast_counts : tie.Need-overflow_cast-counts invariant_loop decreases_loop
 cast_counts c =
     let at_loop = c.before.before in
     let few = (at_loop.before.before.requires.objects at_loop.loop.object (inside c.before)).rows in

@@ -37,16 +37,16 @@ loop_holds c =
     let s = c.before.before in
     seek_start s.args.book.now s.args.object s.args.key c.row_count.result c.row_count.ensures
 
-add_row_key : tie.Need-overflow-add-row-key invariant_loop decreases_loop
+add_row_key : tie.Need-overflow_add-row-key invariant_loop decreases_loop
 add_row_key c = omega (arith, few c.before)
 
 row_key_requires : tie.Need-row-key-requires invariant_loop decreases_loop
 row_key_requires c κs = let f = few c.before in (f.2, f.1, omega (arith, f, c.loop-test.true))
 
-add_low : tie.Need-overflow-add-low invariant_loop decreases_loop
+add_low : tie.Need-overflow_add-low invariant_loop decreases_loop
 add_low c = omega (arith, few c.before.before.before)
 
-sub_left : tie.Need-overflow-sub-left invariant_loop decreases_loop
+sub_left : tie.Need-overflow_sub-left invariant_loop decreases_loop
 sub_left c = omega (arith, c.before.before.loop-test.true)
 
 loop_less : tie.Need-loop-smaller invariant_loop decreases_loop

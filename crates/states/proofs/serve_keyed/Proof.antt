@@ -40,7 +40,7 @@ held_requires c κs =
       k.state.sized.of-cells,
     )
 
-mul_count : tie.Need-overflow-mul-count
+mul_count : tie.Need-overflow_mul-count
 mul_count c = omega (arith, keyed.placed (start c).requires)
 
 element_copy_out_count : tie.Need-element-copy-out-count
@@ -67,28 +67,28 @@ returns c =
 count_after_requires : tie.Need-count-after-requires
 count_after_requires c κs = let b = bounds c.before.before.before.before.before.before in (b.1, b.0, b.2)
 
-mul_counts : tie.Need-overflow-mul-counts
+mul_counts : tie.Need-overflow_mul-counts
 mul_counts c = omega (arith, placed c)
 
 element_write_counts : tie.Need-element-write-counts
 element_write_counts c = (placed c).0
 
-mul_cells : tie.Need-overflow-mul-cells
+mul_cells : tie.Need-overflow_mul-cells
 mul_cells c = omega (arith, placed c)
 
-mul_cells_2 : tie.Need-overflow-mul-cells-2
+mul_cells_2 : tie.Need-overflow_mul-cells-2
 mul_cells_2 c = omega (arith, placed c)
 
 element_write_cells : tie.Need-element-write-cells
 element_write_cells c = omega (arith, placed c)
 
-mul_cells_3 : tie.Need-overflow-mul-cells-3
+mul_cells_3 : tie.Need-overflow_mul-cells-3
 mul_cells_3 c = omega (arith, placed c)
 
-add_cells : tie.Need-overflow-add-cells
+add_cells : tie.Need-overflow_add-cells
 add_cells c = omega (arith, placed c)
 
-mul_cells_4 : tie.Need-overflow-mul-cells-4
+mul_cells_4 : tie.Need-overflow_mul-cells-4
 mul_cells_4 c = omega (arith, placed c)
 
 element_write_cells_2 : tie.Need-element-write-cells-2

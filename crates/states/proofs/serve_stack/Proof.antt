@@ -33,40 +33,40 @@ entry_operation_requires c κs = readable c.before
 entry_answer_requires : tie.Need-entry-answer-requires
 entry_answer_requires c κs = readable c.before.before
 
-mul_count : tie.Need-overflow-mul-count
+mul_count : tie.Need-overflow_mul-count
 mul_count c = omega (arith, stacked.placed c.before.before.before.requires)
 
 element_copy_out_count : tie.Need-element-copy-out-count
 element_copy_out_count c = stacked.placed c.before.before.before.requires
 
-mul_top : tie.Need-overflow-mul-top
+mul_top : tie.Need-overflow_mul-top
 mul_top c = omega (arith, stacked.placed c.before.before.before.before.requires)
 
 element_copy_out_top : tie.Need-element-copy-out-top
 element_copy_out_top c = stacked.placed c.before.before.before.before.requires
 
-mul_below : tie.Need-overflow-mul-below
+mul_below : tie.Need-overflow_mul-below
 mul_below c = omega (arith, stacked.bounds (start c).requires)
 
 element_write_below : tie.Need-element-write-below
 element_write_below c = (stacked.bounds (start c).requires).3
 
-add_tops : tie.Need-overflow-add-tops
+add_tops : tie.Need-overflow_add-tops
 add_tops c = omega (arith, stacked.bounds (start c).requires)
 
-cast_tops : tie.Need-overflow-cast-tops
+cast_tops : tie.Need-overflow_cast-tops
 cast_tops c = omega (arith, stacked.bounds (start c).requires)
 
-mul_tops : tie.Need-overflow-mul-tops
+mul_tops : tie.Need-overflow_mul-tops
 mul_tops c = omega (arith, stacked.placed (start c).requires)
 
 element_write_tops : tie.Need-element-write-tops
 element_write_tops c = stacked.placed (start c).requires
 
-add_counts : tie.Need-overflow-add-counts
+add_counts : tie.Need-overflow_add-counts
 add_counts c = omega (arith, stacked.bounds (start c).requires)
 
-mul_counts : tie.Need-overflow-mul-counts
+mul_counts : tie.Need-overflow_mul-counts
 mul_counts c = omega (arith, stacked.placed (start c).requires)
 
 element_write_counts : tie.Need-element-write-counts
@@ -86,22 +86,22 @@ top_answer_requires : tie.Need-top-answer-requires
 top_answer_requires c κs =
     let k = (asked c).requires in let b = stacked.bounds k in (k.entry.formed.packed.words, stacked.placed k, b.1, b.2)
 
-mul_counts_2 : tie.Need-overflow-mul-counts-2
+mul_counts_2 : tie.Need-overflow_mul-counts-2
 mul_counts_2 c = omega (arith, stacked.placed (at_pop c).requires)
 
 element_write_counts_2 : tie.Need-element-write-counts-2
 element_write_counts_2 c = stacked.placed (at_pop c).requires
 
-cast_under : tie.Need-overflow-cast-under
+cast_under : tie.Need-overflow_cast-under
 cast_under c = omega (arith, stacked.bounds (at_pop c.before).requires)
 
-mul_under : tie.Need-overflow-mul-under
+mul_under : tie.Need-overflow_mul-under
 mul_under c = omega (arith, stacked.bounds (at_pop c.before).requires)
 
 element_copy_out_under : tie.Need-element-copy-out-under
 element_copy_out_under c = omega (arith, stacked.bounds (at_pop c.before).requires, c.if4.true)
 
-mul_tops_2 : tie.Need-overflow-mul-tops-2
+mul_tops_2 : tie.Need-overflow_mul-tops-2
 mul_tops_2 c = omega (arith, stacked.placed (at_pop c.before.before).requires)
 
 element_write_tops_2 : tie.Need-element-write-tops-2

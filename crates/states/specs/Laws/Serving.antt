@@ -1,7 +1,6 @@
 -- The state while entries are served: at the start, at an entry, after it, and at the end.
 use Rattle.std.specs.Prelude.{ℕ, ◌+◌, ◌≤◌, ◌<◌, ◌≡◌, refl, Bool, true, cond, ◌↔◌, List, ◌∷◌, eqb, length, get_or, set}
 use Rattle.std.proofs.Common.{sym, ap, ap₂, ◌∙◌, subst, arith, eq-eqb, ne_eqb, get_or-set_same, get_or-set_other}
-use Rattle.std.proofs.Math.Logic.{Iff·rfl, Iff·trans}
 use Rattle.std.proofs.Math.Option.{some, some-injective}
 use Rattle.operations.specs.Operations.{Kind, Stack, Set, Table, Row, Operation, Answer, answering, kind_of, key_of, next}
 use Rattle.operations.specs.Operations.{answer, WellFormed, reduce_key}
@@ -22,6 +21,7 @@ use Rattle.answers.specs.Laws.Whole.{row_count, rows_read}
 use Rattle.states.specs.States.{kind_at, Ordered, AllAnswered, Sized, Serving, Formed, EntryOn, RowCounts}
 use Rattle.states.specs.Laws.Cells.{ordered_next}
 use Rattle.states.specs.Laws.Stacks.{stacked_start}
+use mathlib.Core.Logic.Iff
 
 -- ---- The book
 
@@ -47,7 +47,7 @@ module _ {w : List ℕ} (formed : Formed w) where
         cell = λ j l f k. absurd (omega arith);
         fresh = λ o k u n. refl;
         stack = λ o l k. stacked_start w (rows_at w o) (get_or tops o 0) below (empty o l);
-        left = Iff·rfl;
+        left = Iff.rfl;
       }
 
 pub served_all : {w : List ℕ} {i : ℕ} {cells counts tops below : List ℕ} → Serving w i cells counts tops below
@@ -144,11 +144,11 @@ module _ {w : List ℕ} {i o : ℕ} (e : EntryOn w i o) where
         (λ (d : q ≡ o → ⊥). rw (rows_other q d) (get_or-set_other counts o q n 0 d ∙ s.counted q m))
 
     pub left_after : Right → AllAnswered w (i + 1) rows_after ↔ AllAnswered w 0 (rows_at w)
-    left_after right = Iff·trans (λ h q m. (step q).0 (h q m), λ h q m. (step q).1 (h q m)) s.left
+    left_after right = Iff.trans (λ h q m. (step q).0 (h q m), λ h q m. (step q).1 (h q m)) s.left
       where
         step : (q : ℕ) → Answered next answer (entries_from w q (i + 1)) (rows_after q)
             ↔ Answered next answer (entries_from w q i) (s.rows q)
         step q =
             same q o (λ (d : q ≡ o). rw (d, entries_here, rows_own) (λ h. (right, h), λ h. h.1))
             (λ (d : q ≡ o → ⊥).
-            rw (entries_other w i q e.inside (λ x. d (sym x ∙ sym e.on)), rows_other q d) Iff·rfl)
+            rw (entries_other w i q e.inside (λ x. d (sym x ∙ sym e.on)), rows_other q d) Iff.rfl)

@@ -2,7 +2,6 @@
 use Rattle.std.specs.Prelude.{ℕ, ◌≤◌, ◌<◌, ◌+◌, ◌*◌, ◌≡◌, refl, true, List, [], ◌∷◌, length}
 use Rattle.std.proofs.Common.{ap, arith}
 use Rattle.std.proofs.Math.Bool.{Bool-discrete}
-use Rattle.std.proofs.Math.Logic.{Dec·and, Dec·not}
 use Rattle.std.proofs.Math.Option.{Option, none, some, none-ne-some, some-injective}
 use Rattle.std.proofs.Math.Decide.{ℕ_discrete, dec_le, dec_lt}
 use Rattle.std.proofs.Math.ListN.{get_or-eq_default}
@@ -26,17 +25,18 @@ use Rattle.store.specs.Laws.Capacity.{past_room}
 use Rattle.store.specs.Laws.Deciding.{alike, implies, and_then, all_three, all_four, by_number, all, made_of}
 use Rattle.store.specs.Laws.Deciding.{all_below, every, some_below}
 use Rattle.store.specs.Laws.Graph.{depends_on, pseudo_committed_lem, cycle}
+use mathlib.Core.Logic.Dec
 
 -- ---- Rows, operations and answers
 
 same_answer : (r q : Answer) → Dec (r ≡ q)
 same_answer r q =
     alike (λ h i. answering (h.0 i) (h.1 i), λ e. (ap (λ (x : Answer). x.code) e, ap (λ (x : Answer). x.value) e))
-    (Dec·and (ℕ_discrete r.code q.code) (ℕ_discrete r.value q.value))
+    (Dec.and (ℕ_discrete r.code q.code) (ℕ_discrete r.value q.value))
 
 ascending : (rs : List Row) → Dec (Ascending rs)
 ascending [] = yes tt
-ascending (r ∷ rs) = Dec·and (all (λ (q : Row). dec_lt r.key q.key) rs) (ascending rs)
+ascending (r ∷ rs) = Dec.and (all (λ (q : Row). dec_lt r.key q.key) rs) (ascending rs)
 
 module _ (reduce : ℕ → ℕ) where
   reduced : (k : ℕ) → Dec (reduce k ≡ k)
@@ -46,7 +46,7 @@ module _ (reduce : ℕ → ℕ) where
   well_formed Stack rs = all (λ (r : Row). ℕ_discrete r.value 0) rs
   well_formed Set rs =
       all_three (all (λ (r : Row). ℕ_discrete r.value 0) rs) (all (λ (r : Row). reduced r.key) rs) (ascending rs)
-  well_formed Table rs = Dec·and (all (λ (r : Row). reduced r.key) rs) (ascending rs)
+  well_formed Table rs = Dec.and (all (λ (r : Row). reduced r.key) rs) (ascending rs)
 
   stored_key : (o : Operation) → Dec (StoredKey reduce o)
   stored_key (on_stack o) = yes tt
@@ -61,10 +61,10 @@ module _ (X : ObjectType) where
   all_recoverable : (l : List (Entry Operation Answer)) → Dec (Recoverable X.recoverable l)
   all_recoverable [] = yes tt
   all_recoverable (e ∷ l) =
-      Dec·and
+      Dec.and
       (all
       (λ (x : Entry Operation Answer).
-      implies (Dec·not (ℕ_discrete x.transaction e.transaction))
+      implies (Dec.not (ℕ_discrete x.transaction e.transaction))
       (Bool-discrete (recoverable x.operation e.operation) true)) l)
       (all_recoverable l)
 
@@ -72,7 +72,7 @@ module _ (X : ObjectType) where
       → (l : List (Entry Operation Answer)) (s : State) → Dec (Answered X.next X.answer l s)
   all_answered alike [] s = yes tt
   all_answered alike (e ∷ l) s =
-      Dec·and (alike (answer e.operation s) e.answer) (all_answered alike l (next e.operation s))
+      Dec.and (alike (answer e.operation s) e.answer) (all_answered alike l (next e.operation s))
 
 -- ---- A store
 
@@ -130,13 +130,13 @@ module _ (s : Store) where
       (λ t past p. absurd (omega (arith, pseudo_committed_within s t p)))
 
   acyclic : Dec (Acyclic s)
-  acyclic = of_pseudo_committed (λ t. OnCycle s t → ⊥) (λ t. Dec·not (cycle s t))
+  acyclic = of_pseudo_committed (λ t. OnCycle s t → ⊥) (λ t. Dec.not (cycle s t))
 
   on_live : (t : ℕ) → Dec ((u : ℕ) × Live s u × DependsOn s.log t u)
   on_live t =
       alike (λ h. (h.0, h.2.0, h.2.1), λ h. (h.0, live_within s h.0 h.1, (h.1, h.2)))
       (some_below (length s.statuses) (λ u. Live s u × DependsOn s.log t u)
-      (λ u. Dec·and (Dec·not (same_status (status_of s u) absent)) (depends_on s.log t u)))
+      (λ u. Dec.and (Dec.not (same_status (status_of s u) absent)) (depends_on s.log t u)))
 
   dependent : Dec (Dependent s)
   dependent = of_pseudo_committed (λ t. (u : ℕ) × Live s u × DependsOn s.log t u) on_live
@@ -164,12 +164,12 @@ module _ (s : Store) where
         )
         (and_then
         (all_four (of_kind_lem _ (λ o kind. well_formed format.reduce kind (object_of s o).rows))
-        (all (λ (l : Logged). Dec·not (same_status (status_of s l.entry.transaction) absent)) s.log)
+        (all (λ (l : Logged). Dec.not (same_status (status_of s l.entry.transaction) absent)) s.log)
         (all (λ (l : Logged). by_number kind_word read_kind kind_read (object_of s l.object).kind
         (some (kind_of l.entry.operation))) s.log)
         (all (λ (l : Logged). stored_key format.reduce l.entry.operation) s.log))
         (λ h.
-        Dec·and
+        Dec.and
         (all_three (of_kind_lem _ (λ o kind. all_recoverable (object format.reduce kind) (on_object o s.log)))
         (of_kind_lem _
         (λ o kind. all_answered (object format.reduce kind) same_answer (on_object o s.log) (object_of s o).rows))
@@ -179,7 +179,7 @@ module _ (s : Store) where
     sound_store : Dec (SoundStore format s)
     sound_store =
         alike (λ h. record { unsettled = h.0; dependent = h.1 }, λ p. (p.unsettled, p.dependent))
-        (Dec·and unsettled dependent)
+        (Dec.and unsettled dependent)
 
 -- ---- A book's words
 

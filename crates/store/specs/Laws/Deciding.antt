@@ -2,7 +2,6 @@
 use Rattle.std.specs.Prelude.{ℕ, ◌≤◌, ◌<◌, ◌≡◌, Bool, true, false, ◌↔◌, ◌⊎◌, List, [], ◌∷◌}
 use Rattle.std.proofs.Common.{sym, ap, ◌∙◌, subst, inl, inr, ⊎_elim}
 use Rattle.std.proofs.Math.Bool.{decide}
-use Rattle.std.proofs.Math.Logic.{Dec·and}
 use Rattle.std.proofs.Math.Decide.{ℕ_discrete}
 use Rattle.operations.specs.Operations.{All}
 use Rattle.operations.specs.Laws.Cases.{split}
@@ -10,6 +9,7 @@ use Rattle.store.specs.Dependency.{Any, Follows}
 use Rattle.store.specs.Layout.{tabulate}
 use Rattle.store.specs.Laws.Lists.{all_each, all_of, Below, any_some, any_of}
 use Rattle.store.specs.Laws.Words.{below}
+use mathlib.Core.Logic.Dec
 
 -- A test of what is decided answers as the decision does.
 pub decided : {P : Type 0} (d : Dec P) (b : Bool) → (b ≡ true) ↔ P → decide d ≡ b
@@ -17,7 +17,7 @@ unfolding decide
 decided (yes p) b test = sym (test.1 p)
 decided (no n) b test = split b (λ (e : b ≡ true). absurd (n (test.0 e))) (λ (e : b ≡ false). sym e)
 
--- As the kit's `Dec·of-iff`, which does not compute; what is marked `abbrev` here does.
+-- As the kit's `Dec.of-iff`, which does not compute; what is marked `abbrev` here does.
 abbrev pub alike : {P Q : Type 0} → P ↔ Q → Dec P → Dec Q
 alike e (yes p) = yes (e.0 p)
 alike e (no n) = no (λ q. n (e.1 q))
@@ -37,11 +37,11 @@ and_then (yes p) d = alike (λ q. (p, q), λ h. h.1) (d p)
 and_then (no n) d = no (λ h. n h.0)
 
 abbrev pub all_three : {P Q R : Type 0} → Dec P → Dec Q → Dec R → Dec (P × Q × R)
-all_three d e f = alike (λ h. (h.0, h.1.0, h.1.1), λ h. (h.0, (h.1, h.2))) (Dec·and d (Dec·and e f))
+all_three d e f = alike (λ h. (h.0, h.1.0, h.1.1), λ h. (h.0, (h.1, h.2))) (Dec.and d (Dec.and e f))
 
 abbrev pub all_four : {P Q R S : Type 0} → Dec P → Dec Q → Dec R → Dec S → Dec (P × Q × R × S)
 all_four d e f g =
-    alike (λ h. (h.0, h.1.0, h.1.1, h.1.2), λ h. (h.0, (h.1, h.2, h.3))) (Dec·and d (all_three e f g))
+    alike (λ h. (h.0, h.1.0, h.1.1, h.1.2), λ h. (h.0, (h.1, h.2, h.3))) (Dec.and d (all_three e f g))
 
 -- What can be read back from its number is the same where the numbers are.
 pub by_number : {A : Type 0} (number : A → ℕ) (read : ℕ → A) → ((x : A) → read (number x) ≡ x) → (x y : A) → Dec (x ≡ y)
@@ -51,7 +51,7 @@ by_number number read back x y =
 module _ {A : Type 0} where
   pub all : {P : A → Type 0} → ((x : A) → Dec (P x)) → (l : List A) → Dec (All P l)
   all d [] = yes tt
-  all d (x ∷ l) = Dec·and (d x) (all d l)
+  all d (x ∷ l) = Dec.and (d x) (all d l)
 
   abbrev pub any : {P : A → Type 0} → ((x : A) → Dec (P x)) → (l : List A) → Dec (Any P l)
   any d [] = no (λ p. p)

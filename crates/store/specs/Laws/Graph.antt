@@ -1,7 +1,6 @@
 -- Decisions about a store's dependencies. They compute, so that the desk does.
 use Rattle.std.specs.Prelude.{ℕ, zero, suc, ◌<◌, ◌≡◌, refl, false, List, length}
 use Rattle.std.proofs.Math.Bool.{Bool-discrete}
-use Rattle.std.proofs.Math.Logic.{Dec·and, Dec·not, Dec·not-not}
 use Rattle.std.proofs.Math.Decide.{ℕ_discrete}
 use Rattle.operations.specs.PairRules.{commutes}
 use Rattle.store.specs.Store.{Status, absent, active, pseudo_committed, Logged, Store, status_of, PseudoCommitted}
@@ -12,6 +11,7 @@ use Rattle.store.specs.Laws.Statuses.{absent_unranked, active_unranked}
 use Rattle.store.specs.Laws.Ways.{shortened}
 use Rattle.store.specs.Laws.Cycles.{within}
 use Rattle.store.specs.Laws.Deciding.{alike, either, and_then, all_three, all_four, any, follows}
+use mathlib.Core.Logic.Dec
 
 abbrev conflict : (a b : ℕ) (e x : Logged) → Dec (Conflict a b e x)
 conflict a b e x =
@@ -21,7 +21,7 @@ conflict a b e x =
 
 module _ (log : List Logged) where
   abbrev pub depends_on : (a b : ℕ) → Dec (DependsOn log a b)
-  depends_on a b = Dec·and (Dec·not (ℕ_discrete a b)) (follows (conflict a b) log)
+  depends_on a b = Dec.and (Dec.not (ℕ_discrete a b)) (follows (conflict a b) log)
 
   -- Some transaction that a depends on is such: it owns an entry.
   abbrev someone : (a : ℕ) {P : ℕ → Type 0} → ((c : ℕ) → P c → DependsOn log a c)
@@ -38,10 +38,10 @@ module _ (log : List Logged) where
   depends t = someone t (λ u d. d) (depends_on t)
 
   abbrev pub ready : (t : ℕ) → Dec (Ready log t)
-  ready t = alike (λ n u d. n (u, d), λ r w. r w.0 w.1) (Dec·not (depends t))
+  ready t = alike (λ n u d. n (u, d), λ r w. r w.0 w.1) (Dec.not (depends t))
 
   pub depends_on_some : (t : ℕ) → (Ready log t → ⊥) → (u : ℕ) × DependsOn log t u
-  depends_on_some t n = (Dec·not-not (depends t)).0 (λ m. n (λ u d. m (u, d)))
+  depends_on_some t n = (Dec.not-not (depends t)).0 (λ m. n (λ u d. m (u, d)))
 
 module _ (s : Store) where
   abbrev pub pseudo_committed_lem : (t : ℕ) → Dec (PseudoCommitted s t)
@@ -69,9 +69,9 @@ module _ (s : Store) where
         alike (λ w. (64, w), shortened (DependsOn s.log) (PseudoCommitted s) (within s sized) a b l) (way 64 a b)
 
     abbrev pub predecessor : (t : ℕ) → t < 64 → (u : ℕ) → Dec (PRED s t u)
-    predecessor t l u = all_three (Dec·not (ℕ_discrete u t)) (pseudo_committed_lem u) (leads u t l)
+    predecessor t l u = all_three (Dec.not (ℕ_discrete u t)) (pseudo_committed_lem u) (leads u t l)
 
     abbrev pub successor : (t u : ℕ) → Dec (SUCC s t u)
     successor t u =
         alike (λ p. (p.0, p.1.0, p.1.1), λ p. (p.0, (p.1, p.2)))
-        (Dec·and (Dec·not (ℕ_discrete u t)) (and_then (pseudo_committed_lem u) (λ p. leads t u (within s sized u p))))
+        (Dec.and (Dec.not (ℕ_discrete u t)) (and_then (pseudo_committed_lem u) (λ p. leads t u (within s sized u p))))

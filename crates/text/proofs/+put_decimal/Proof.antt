@@ -25,10 +25,10 @@ abbrev below : ℕ → In 1 put-decimal-kinds.ps
 below t = and 1 put-decimal-kinds.ps (falls 1 put-decimal-kinds.ps ◌<◌ μ t) put-decimal.Pre
 
 module _ (t : ℕ) where
-  cast_digit : lts.Need-overflow-cast-digit (below t, put-decimal.Post) (given t) put-decimal.Post
+  cast_digit : lts.Need-overflow_cast-digit (below t, put-decimal.Post) (given t) put-decimal.Post
   cast_digit c = search rules
 
-  add_digit : lts.Need-overflow-add-digit (below t, put-decimal.Post) (given t) put-decimal.Post
+  add_digit : lts.Need-overflow_add-digit (below t, put-decimal.Post) (given t) put-decimal.Post
   add_digit c = search rules
 
   within : lts.Need-slice-write-out (below t, put-decimal.Post) (given t) put-decimal.Post
@@ -68,7 +68,7 @@ module _ (t : ℕ) where
       last_within a.args.out.now a.args.at a.args.number a.pre.1
       c.before.before.before.before.if1.false (bounded c) (others c)
 
-  next : lts.Need-overflow-add-result-2 (below t, put-decimal.Post) (given t) put-decimal.Post
+  next : lts.Need-overflow_add-result-2 (below t, put-decimal.Post) (given t) put-decimal.Post
   next c = omega (arith, last c)
 
   same : lts.Need-same-length-2 (below t, put-decimal.Post) (given t) put-decimal.Post

@@ -2,7 +2,6 @@
 use Rattle.std.specs.Prelude.{ℕ, ◌≡◌, refl, false, List, [], ◌∷◌, length}
 use Rattle.std.proofs.Common.{ap, ◌∙◌, eq-eqb}
 use Rattle.std.proofs.Math.Bool.{decide}
-use Rattle.std.proofs.Math.Logic.{Dec·and, Dec·not}
 use Rattle.std.proofs.Math.Decide.{ℕ_discrete}
 use Rattle.operations.specs.Operations.{reduce_key, by_order}
 use Rattle.store.specs.Layout.{BookLong, book_words}
@@ -18,6 +17,7 @@ use Rattle.protocol.specs.Theorems.{set_up_sound, sound_kept}
 use Rattle.protocol.specs.Laws.Reasons.{found_sound}
 use Rattle.protocol.specs.Laws.Leaving.{set_up_served}
 use Rattle.history.specs.History.{Event, trace}
+use mathlib.Core.Logic.Dec
 
 -- What a call leaves where reason 4 does not apply. `rw` finds it; r, the call itself, keeps `rw` to one side.
 passed : (call : Call) (w : List ℕ)
@@ -33,7 +33,7 @@ passed (contents o) w = (_, λ e r p. rw e at p)
 
 -- Where it unfolds, all that it goes by does, so that it computes.
 unfoldable pub unchecked : Call → List ℕ → Served
-unfolding passed decide ℕ_discrete Dec·and Dec·not whether_ready whether_on_cycle lowest_ready
+unfolding passed decide ℕ_discrete Dec.and Dec.not whether_ready whether_on_cycle lowest_ready
     first_below reduce_key by_order tabulate encode
 unchecked call w = (passed call w).0
 

@@ -13,7 +13,7 @@ use Rattle.journal_reader.proofs.reply.read_code.Tie as tie
 stops : tie.Need-returns
 stops c = passed_on itself _ c.enum_told.given.1 c.before.before.read_number.ensures
 
-cast_gives : tie.Need-overflow-cast-gives
+cast_gives : tie.Need-overflow_cast-gives
 cast_gives c =
     let read = c.before in
     omega (arith, number_small (known read.read.given.1 read.before.before.read_number.ensures))
