@@ -18,7 +18,7 @@ DECLARED = re.compile(r"^\s*(?:(?:pub|abbrev|unfoldable|opaque|private)\s+)*(?:r
 CONSTRUCTOR = re.compile(r"^\s*\|?\s*(?:pub\s+)?([a-z][\w'-]*)\s+:\s")
 USE = re.compile(r"^\s*(?:pub\s+|ghost\s+)*use\s+([\w.']+?)\.?(?:\{([^}]*)\})?\s*(?:as\s+\S+)?;?\s*$")
 # Names that Rattle makes stand behind these words and a dot.
-MADE = re.compile(r"(?:^|[^\w'-])(?:tie|goal|given)\.$")
+MADE = re.compile(r"(?:^|[^\w'-])(?:tie|goal|given)\.\Z")
 
 
 def texts(root, endings):
@@ -92,7 +92,7 @@ def respell(text, to, in_proof=False, in_code=False):
         plain = snake(name) == name
         if MADE.search(before) or plain and in_code:
             return name
-        behind = re.search(r"([\w'-]*)\.$", before)
+        behind = re.search(r"([\w'-]*)\.\Z", before)
         if in_proof and behind and ("-" in name or plain) and behind.group(1) not in modules:
             return name  # a step that Rattle names
         return new

@@ -116,7 +116,7 @@ next_rows_requires : tie.Need-next-rows-requires invariant_loop decreases_loop
 next_rows_requires c κs = ready c.before.before
 
 -- An entry of the object is carried over or left out; one of another is passed.
-loop-again : tie.Need-loop-preserved invariant_loop decreases_loop
+loop_again : tie.Need-loop-preserved invariant_loop decreases_loop
 loop_again c =
     let in_loop = c.before.before.before in
     let at_loop = in_loop.before in

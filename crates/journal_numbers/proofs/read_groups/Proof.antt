@@ -46,7 +46,7 @@ byte_small c =
     )
 
 -- What a group adds is small, and so is what was read before it.
-sum-small : (c : Turn) (group : ℕ) → group < 128 → let loop = c.before.before.before.loop in
+sum_small : (c : Turn) (group : ℕ) → group < 128 → let loop = c.before.before.before.loop in
     loop.value + loop.scale * group < 35_000_000_000
 sum_small c group l =
     let loop = c.before.before.before.loop in

@@ -19,7 +19,7 @@ abbrev start : tie.Else4 → tie.Start
 start c = c.before.before.before.before.before.before
 
 -- Past 1, 4, 5 and 12.
-past-number : (c : tie.Else4) {r later : ℕ} → r ≡ later
+past_number : (c : tie.Else4) {r later : ℕ} → r ≡ later
     → r ≡ cond (calls.wrong_length (book (start c))) 1
     (cond (calls.unsound whether_sound (book (start c))) 4
     (cond (calls.above_last (start c).args.transaction) 5 (cond (start c).args.many 12 later)))

@@ -39,7 +39,7 @@ is_sound c =
     asker_sound (w start) start.args.transaction (lent start) _ (asked c.before) c.if1.false
 
 -- The limits are left.
-past-both : (c : tie.Else2) {r : ℕ} → let start = begin c.before.before.before in
+past_both : (c : tie.Else2) {r : ℕ} → let start = begin c.before.before.before in
     r ≡ first (limiting base start.args.transaction (decode base (w start)) (operations_in (lent start)))
     → r ≡ batch_reason base whether_sound (w start) start.args.transaction (lent start)
 past_both c =

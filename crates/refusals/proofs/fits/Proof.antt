@@ -43,7 +43,7 @@ needed_before_requires : tie.Need-needed-before-requires invariant_loop decrease
 needed_before_requires c κs = omega (arith, (in_loop c.before.before.before).loop-test.taken)
 
 -- What is used by the object is counted at the same number.
-used-there : (c : tie.After-used invariant_loop decreases_loop)
+used_there : (c : tie.After-used invariant_loop decreases_loop)
     → let in_loop = in_loop c.before.before.before in
     let a = (begin in_loop).args in
     c.used.result ≡ base.used (decode base a.book.now) (word a.operations.now (4 * in_loop.before.loop.i))

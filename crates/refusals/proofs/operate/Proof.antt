@@ -31,7 +31,7 @@ is_sound c =
     asker_sound (book start) start.args.transaction (lent start 0 0) _ c.before.asker.ensures c.if1.false
 
 -- The limits are left.
-past-both : (c : tie.Else2) (k v : ℕ) {r : ℕ}
+past_both : (c : tie.Else2) (k v : ℕ) {r : ℕ}
     → r ≡ first (limiting base (start c).args.transaction (decode base (book (start c)))
     (operations_in (lent (start c) k v)))
     → r ≡ operate_reason base whether_sound (book (start c)) (start c).args.transaction (start c).args.object
@@ -85,7 +85,7 @@ used_requires c κs =
     )
 
 -- What is used by the object is counted at the same number.
-used-there : (c : tie.After-used) → let a = (start c.before.before.before.before.before.before).args in
+used_there : (c : tie.After-used) → let a = (start c.before.before.before.before.before.before).args in
     c.used.result ≡ base.used (decode base a.book.now) a.object
 used_there c =
     let a = (start c.before.before.before.before.before.before).args in

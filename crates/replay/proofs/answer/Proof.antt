@@ -23,72 +23,72 @@ asked s = s.args.operation
 abbrev filled : tie.Start → List Row
 filled s = rows_of s.args.rows.now s.args.count
 
-fits : (c : tie.After-whole) → c.before.args.count ≤ length c.before.args.rows.now
-fits c = omega (arith, c.whole.given.0)
+fits : (c : tie.After-whole-1) → c.args.count ≤ length c.args.rows.now
+fits c = omega (arith, c.whole-1.given.0)
 
-slice_aggregate_filled : tie.Need-slice-aggregate-filled
-slice_aggregate_filled c = sym (length-take-le _ _ (fits c.before))
+slice_aggregate_filled : tie.Need-slice_bounds-filled-end
+slice_aggregate_filled c = sym (length-take-le _ _ (fits c))
 
 present_requires : tie.Need-present-requires
-present_requires c κs = c.before.before.before.requires.1 (omega (arith, c.match.keys3))
+present_requires c κs = c.requires.1 (omega (arith, c.in-7.is))
 
 lookup_requires : tie.Need-lookup-requires
-lookup_requires c κs = c.before.before.before.requires.1 (omega (arith, c.match.keys4))
+lookup_requires c κs = c.requires.1 (omega (arith, c.in-9.is))
 
-present_requires_2 : tie.Need-present-requires-2
+present_requires_2 : tie.Need-present-requires-in-5
 present_requires_2 c κs =
-    c.before.before.before.requires.1
-    (⊎_elim (λ w. ⊎_elim (λ e. omega arith) (λ e. omega arith) w.keys2) (λ w. w.2.left) c.match.branch)
+    c.requires.1
+    (⊎_elim (λ w. ⊎_elim (λ e. omega arith) (λ e. omega arith) w.keys2) (λ w. w.2.left) c.in-5-1.branch-raw)
 
-returns : tie.Need-returns
-returns c = answer_done (asked c.before.before.before) (filled c.before.before.before) c.match.keys1
+returns : tie.Need-returns-in-1
+returns c = answer_done (asked c.before.before) (filled c.before.before) c.in-1.is
 
-returns_2 : tie.Need-returns-2
+returns_2 : tie.Need-returns-in-7
 returns_2 c =
-    let start = c.before.before.before.before.before in
+    let start = c.before.before.before.before in
     c.flag.ensures
-    ∙ ap (λ b. flag (not b)) c.before.present.ensures
-    ∙ answer_insert (asked start) (filled start) c.before.before.match.keys3
+    ∙ ap (λ b. flag (not b)) c.present.ensures
+    ∙ answer_insert (asked start) (filled start) c.in-7.is
 
-returns_3 : tie.Need-returns-3
+returns_3 : tie.Need-returns-in-9
 returns_3 c =
-    let start = c.before.before.before.before in
-    c.lookup.ensures ∙ answer_lookup (asked start) (filled start) c.before.match.keys4
+    let start = c.before.before.before in
+    c.lookup.ensures ∙ answer_lookup (asked start) (filled start) c.in-9.is
 
-returns_4 : tie.Need-returns-4
+returns_4 : tie.Need-returns-in-10
 returns_4 c =
-    ap (λ n. answering 1 n) (sym (count_rows _ _ (fits c.before.before)))
-    ∙ answer_size (asked c.before.before.before) (filled c.before.before.before) c.match.keys5
+    ap (λ n. answering 1 n) (sym (count_rows _ _ (fits c.before)))
+    ∙ answer_size (asked c.before.before) (filled c.before.before) c.in-10.is
 
-returns_5 : tie.Need-returns-5
+returns_5 : tie.Need-returns-in-2
 returns_5 c =
-    let arm = c.before.before.before in
-    let start = arm.before.before.before in
+    let arm = c in
+    let start = arm.before.before.before.before.before in
     c.top.ensures
-    ∙ answer_top (asked start) (filled start) arm.match.rest.0.0.0.0.1 c.before.before.if1.false
-    c.before.if2.true
+    ∙ answer_top (asked start) (filled start) arm.in_default.in_default-own.rest.0.0.0.0.1 c.if-number-lt1.false
+    c.if-number-lt4.true
 
-returns_6 : tie.Need-returns-6
+returns_6 : tie.Need-returns-in_default
 returns_6 c =
-    let start = c.before.before.before.before in
-    answer_below (asked start) (filled start) c.if1.true
+    let start = c.before.before.before in
+    answer_below (asked start) (filled start) c.if-number-lt1.true
 
-returns_7 : tie.Need-returns-7
+returns_7 : tie.Need-returns-in_default-2
 returns_7 c =
-    let arm = c.before.before.before in
-    let start = arm.before.before.before in
-    let rest = arm.match.rest in
-    answer_above (asked start) (filled start) rest.0.0.0.1 rest.0.0.1 rest.0.1 rest.1 c.if3.false
+    let arm = c in
+    let start = arm.before.before.before.before.before in
+    let rest = arm.in_default.in_default-own.rest in
+    answer_above (asked start) (filled start) rest.0.0.0.1 rest.0.0.1 rest.0.1 rest.1 c.if-number-lt7.false
 
-returns_8 : tie.Need-returns-8
+returns_8 : tie.Need-returns-in-5
 returns_8 c =
-    let start = c.before.before.before.before.before in
-    c.flag2.ensures
-    ∙ ap flag c.before.present2.ensures
+    let start = c.before.before.before.before in
+    c.flag-in-5.ensures
+    ∙ ap flag c.present-in-5.ensures
     ∙ ⊎_elim
     (λ w. answer_present (asked start) (filled start) w.keys2)
     (λ w. answer_present_set (asked start) (filled start) w.0.rest.0.0.0.0.1 w.2.left w.3.taken)
-    c.before.before.match.branch
+    c.in-5-1.branch-raw
 
 pub answer_spec : {M : Type 1} → statement M
 answer_spec =

@@ -9,33 +9,33 @@ use Rattle.replay.specs.Laws.Copies.{within, deleted_removed, deleted_kept}
 use Rattle.replay.proofs.delete.Statement.{statement}
 use Rattle.replay.proofs.delete.Tie as tie
 
-fits : (c : tie.Start) → c.args.count ≤ length c.args.rows
-fits c = omega (arith, c.well-formed.0.1.0.1)
+fits : (c : tie.Start) → c.args.count ≤ length c.args.rows-1
+fits c = omega (arith, c.well_formed.0.1.0.1)
 
-slice_aggregate_present : tie.Need-slice-aggregate-present
+slice_aggregate_present : tie.Need-slice_bounds-present-end
 slice_aggregate_present c = sym (length-take-le _ _ (fits c.before))
 
-close_at_requires : tie.Need-close-at-requires
+close_at_requires : tie.Need-close_at-requires
 close_at_requires c κs =
-    let test = c.before.before in
-    let start = test.before.before in (
-      within _ _ (fits start) _ _ start.requires.1 (sym test.present.ensures ∙ c.before.if1.true),
+    let test = c in
+    let start = test.before.before.before.before in (
+      within _ _ (fits start) _ _ start.requires.1 (sym test.present.ensures ∙ c.if-present.true),
       start.requires.0,
-      omega (arith, start.well-formed.0.1.0.1),
+      omega (arith, start.well_formed.0.1.0.1),
     )
 
-returns : tie.Need-returns
+returns : tie.Need-returns-then-present
 returns c =
-    let test = c.before.before.before in
-    let start = test.before.before in
+    let test = c in
+    let start = test.before.before.before.before.before in
     deleted_removed _ _ (fits start) _ _ start.requires.1 _
-    (sym test.present.ensures ∙ c.before.before.if1.true)
+    (sym test.present.ensures ∙ c.if-present.true)
     c.close_at.ensures
 
-returns_2 : tie.Need-returns-2
+returns_2 : tie.Need-returns-else-present
 returns_2 c =
     let start = c.before.before.before in
-    deleted_kept _ _ (fits start) _ _ start.requires.1 (sym c.before.present.ensures ∙ c.if1.false)
+    deleted_kept _ _ (fits start) _ _ start.requires.1 (sym c.present.ensures ∙ c.if-present.false)
 
 pub delete_spec : {M : Type 1} → statement M
 delete_spec =

@@ -9,32 +9,32 @@ use Rattle.replay.specs.Laws.Copies.{within, modified_set, modified_kept}
 use Rattle.replay.proofs.modify.Statement.{statement}
 use Rattle.replay.proofs.modify.Tie as tie
 
-fits : (c : tie.Start) → c.args.count ≤ length c.args.rows
-fits c = omega (arith, c.well-formed.0.1.0.1)
+fits : (c : tie.Start) → c.args.count ≤ length c.args.rows-1
+fits c = omega (arith, c.well_formed.0.1.0.1)
 
-inside : (c : tie.Then1) → let start = c.before.before.before in start.args.at < start.args.count
+inside : (c : tie.Then-present) → let start = c.before.before.before in start.args.at < start.args.count
 inside c =
     let start = c.before.before.before in
-    within _ _ (fits start) _ _ start.requires.1 (sym c.before.present.ensures ∙ c.if1.true)
+    within _ _ (fits start) _ _ start.requires.1 (sym c.present.ensures ∙ c.if-present.true)
 
-slice_aggregate_present : tie.Need-slice-aggregate-present
+slice_aggregate_present : tie.Need-slice_bounds-present-end
 slice_aggregate_present c = sym (length-take-le _ _ (fits c.before))
 
-mul_rows : tie.Need-overflow_mul-rows
+mul_rows : tie.Need-offset_bounds-rows-at
 mul_rows c = omega (arith, inside c)
 
-array_set_from_rows : tie.Need-array-set-from-rows
+array_set_from_rows : tie.Need-bounds-rows-at
 array_set_from_rows c = omega (arith, inside c)
 
-returns : tie.Need-returns
+returns : tie.Need-returns-then-present
 returns c =
     let start = c.before.before.before in
-    modified_set _ _ (fits start) _ _ start.requires.1 _ (sym c.before.present.ensures ∙ c.if1.true)
+    modified_set _ _ (fits start) _ _ start.requires.1 _ (sym c.present.ensures ∙ c.if-present.true)
 
-returns_2 : tie.Need-returns-2
+returns_2 : tie.Need-returns-else-present
 returns_2 c =
     let start = c.before.before.before in
-    modified_kept _ _ (fits start) _ _ start.requires.1 _ (sym c.before.present.ensures ∙ c.if1.false)
+    modified_kept _ _ (fits start) _ _ start.requires.1 _ (sym c.present.ensures ∙ c.if-present.false)
 
 pub modify_spec : {M : Type 1} → statement M
 modify_spec =

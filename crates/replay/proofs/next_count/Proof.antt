@@ -12,68 +12,68 @@ use Rattle.replay.specs.Laws.Numbers.{count_insert_more, count_delete_less, coun
 use Rattle.replay.proofs.next_count.Statement.{statement}
 use Rattle.replay.proofs.next_count.Tie as tie
 
-fits : (c : tie.After-whole) → c.before.args.count ≤ length c.before.args.rows.now
-fits c = omega (arith, c.whole.given.0)
+fits : (c : tie.After-whole-1) → c.args.count ≤ length c.args.rows.now
+fits c = omega (arith, c.whole-1.given.0)
 
-slice_aggregate_filled : tie.Need-slice-aggregate-filled
-slice_aggregate_filled c = sym (length-take-le _ _ (fits c.before))
+slice_aggregate_filled : tie.Need-slice_bounds-filled-end
+slice_aggregate_filled c = sym (length-take-le _ _ (fits c))
 
 -- Inserts and deletes have a key.
 keyed : {n a b : ℕ} → 4 ≤ a → 4 ≤ b → (n ≡ a) ⊎ (n ≡ b) → 4 ≤ n
 keyed k l = ⊎_elim (λ e. omega arith) (λ e. omega arith)
 
 present_requires : tie.Need-present-requires
-present_requires c κs = c.before.before.before.requires.1 (keyed (omega arith) (omega arith) c.match.keys3)
+present_requires c κs = c.requires.1 (keyed (omega arith) (omega arith) c.in-4.is)
 
-present_requires_2 : tie.Need-present-requires-2
-present_requires_2 c κs = c.before.before.before.requires.1 (keyed (omega arith) (omega arith) c.match.keys4)
+present_requires_2 : tie.Need-present-requires-in-5
+present_requires_2 c κs = c.requires.1 (keyed (omega arith) (omega arith) c.in-5.is)
 
-sub_result_2 : tie.Need-overflow_sub-result-2
+sub_result_2 : tie.Need-overflow_sub-result-then-present-2
 sub_result_2 c =
-    nonempty _ _ (fits c.before.before.before.before) _ (sym c.before.present2.ensures ∙ c.if3.true)
+    nonempty _ _ (fits c.before.before.before) _ (sym c.present-in-5.ensures ∙ c.if-present-2.true)
 
-returns : tie.Need-returns
-returns c = count_push c.before.before.before.args.operation _ _ (fits c.before.before) c.match.keys1
+returns : tie.Need-returns-in-1
+returns c = count_push c.args.operation _ _ (fits c.before) c.in-1.is
 
-returns_2 : tie.Need-returns-2
+returns_2 : tie.Need-returns-then-count-eq0
 returns_2 c =
-    let filled = c.before.before.before in
-    count_pop_empty filled.before.args.operation _ _ (fits filled) c.before.match.keys2 c.if1.true
-
-returns_3 : tie.Need-returns-3
-returns_3 c =
-    let filled = c.before.before.before in
-    count_pop filled.before.args.operation _ _ (fits filled) c.before.match.keys2
-
-returns_4 : tie.Need-returns-4
-returns_4 c =
-    let filled = c.before.before.before.before in
-    count_insert_same filled.before.args.operation _ _ (fits filled) c.before.before.match.keys3
-    (sym c.before.present.ensures ∙ c.if2.true)
-
-returns_5 : tie.Need-returns-5
-returns_5 c =
-    let filled = c.before.before.before.before in
-    count_insert_more filled.before.args.operation _ _ (fits filled) c.before.before.match.keys3
-    (sym c.before.present.ensures ∙ c.if2.false)
-
-returns_6 : tie.Need-returns-6
-returns_6 c =
-    let filled = c.before.before.before.before in
-    count_delete_less filled.before.args.operation _ _ (fits filled) c.before.before.match.keys4
-    (sym c.before.present2.ensures ∙ c.if3.true)
-
-returns_7 : tie.Need-returns-7
-returns_7 c =
-    let filled = c.before.before.before.before in
-    count_delete_same filled.before.args.operation _ _ (fits filled) c.before.before.match.keys4
-    (sym c.before.present2.ensures ∙ c.if3.false)
-
-returns_8 : tie.Need-returns-8
-returns_8 c =
     let filled = c.before.before in
-    let rest = c.match.rest in
-    count_same filled.before.args.operation _ _ (fits filled) rest.0.0.0.1 rest.0.0.1 rest.0.1
+    count_pop_empty filled.args.operation _ _ (fits filled) c.in-2.is c.if-count-eq0.true
+
+returns_3 : tie.Need-returns-else-count-eq0
+returns_3 c =
+    let filled = c.before.before in
+    count_pop filled.args.operation _ _ (fits filled) c.in-2.is
+
+returns_4 : tie.Need-returns-then-present
+returns_4 c =
+    let filled = c.before.before.before in
+    count_insert_same filled.args.operation _ _ (fits filled) c.in-4.is
+    (sym c.present.ensures ∙ c.if-present.true)
+
+returns_5 : tie.Need-returns-else-present
+returns_5 c =
+    let filled = c.before.before.before in
+    count_insert_more filled.args.operation _ _ (fits filled) c.in-4.is
+    (sym c.present.ensures ∙ c.if-present.false)
+
+returns_6 : tie.Need-returns-then-present-2
+returns_6 c =
+    let filled = c.before.before.before in
+    count_delete_less filled.args.operation _ _ (fits filled) c.in-5.is
+    (sym c.present-in-5.ensures ∙ c.if-present-2.true)
+
+returns_7 : tie.Need-returns-else-present-2
+returns_7 c =
+    let filled = c.before.before.before in
+    count_delete_same filled.args.operation _ _ (fits filled) c.in-5.is
+    (sym c.present-in-5.ensures ∙ c.if-present-2.false)
+
+returns_8 : tie.Need-returns-in_default
+returns_8 c =
+    let filled = c.before in
+    let rest = c.in_default.in_default-own.rest in
+    count_same filled.args.operation _ _ (fits filled) rest.0.0.0.1 rest.0.0.1 rest.0.1
     rest.1
 
 pub next_count_spec : {M : Type 1} → statement M

@@ -19,63 +19,63 @@ abbrev filled : tie.Start → List Row
 filled s = rows_of s.args.rows s.args.count
 
 fits : (c : tie.Start) → c.args.count ≤ length c.args.rows
-fits c = omega (arith, c.well-formed.0.1.0.1)
+fits c = omega (arith, c.well_formed.0.1.0.1)
 
 push_requires : tie.Need-push-requires
 push_requires c κs =
     let start = c.before in
-    let more = count_push (asked start) start.args.rows start.args.count (fits start) c.match.keys1 in
+    let more = count_push (asked start) start.args.rows start.args.count (fits start) c.in-1.is in
     omega (arith, start.requires.1, more)
 
 insert_requires : tie.Need-insert-requires
 insert_requires c κs =
     let start = c.before in
-    let e = next_set_insert (asked start) (filled start) c.match.keys2 in
-    (start.requires.0, (rw e at start.requires.1), start.requires.2 (omega (arith, c.match.keys2)))
+    let e = next_set_insert (asked start) (filled start) c.in-4.is in
+    (start.requires.0, (rw e at start.requires.1), start.requires.2 (omega (arith, c.in-4.is)))
 
 delete_requires : tie.Need-delete-requires
 delete_requires c κs =
-    let pre = c.before.requires in
-    (pre.0, pre.2 (⊎_elim (λ e. omega arith) (λ e. omega arith) c.match.keys3))
+    let pre = c.requires in
+    (pre.0, pre.2 (⊎_elim (λ e. omega arith) (λ e. omega arith) c.in-5.is))
 
-insert_requires_2 : tie.Need-insert-requires-2
+insert_requires_2 : tie.Need-insert-requires-in-7
 insert_requires_2 c κs =
     let start = c.before in
-    let e = next_table_insert (asked start) (filled start) c.match.keys4 in
-    (start.requires.0, (rw e at start.requires.1), start.requires.2 (omega (arith, c.match.keys4)))
+    let e = next_table_insert (asked start) (filled start) c.in-7.is in
+    (start.requires.0, (rw e at start.requires.1), start.requires.2 (omega (arith, c.in-7.is)))
 
 modify_requires : tie.Need-modify-requires
-modify_requires c κs = let pre = c.before.requires in (pre.0, pre.2 (omega (arith, c.match.keys5)))
+modify_requires c κs = let pre = c.requires in (pre.0, pre.2 (omega (arith, c.in-11.is)))
 
-returns : tie.Need-returns
+returns : tie.Need-returns-in-1
 returns c =
     let start = c.before.before in
-    rw (next_push (asked start) (filled start) c.before.match.keys1) c.push.ensures
+    rw (next_push (asked start) (filled start) c.in-1.is) c.push.ensures
 
-returns_2 : tie.Need-returns-2
+returns_2 : tie.Need-returns-in-4
 returns_2 c =
     let start = c.before.before in
-    rw (next_set_insert (asked start) (filled start) c.before.match.keys2) c.insert.ensures
+    rw (next_set_insert (asked start) (filled start) c.in-4.is) c.insert.ensures
 
-returns_3 : tie.Need-returns-3
+returns_3 : tie.Need-returns-in-5
 returns_3 c =
     let start = c.before.before in
-    rw (next_delete (asked start) (filled start) c.before.match.keys3) c.delete.ensures
+    rw (next_delete (asked start) (filled start) c.in-5.is) c.delete.ensures
 
-returns_4 : tie.Need-returns-4
+returns_4 : tie.Need-returns-in-7
 returns_4 c =
     let start = c.before.before in
-    rw (next_table_insert (asked start) (filled start) c.before.match.keys4) c.insert2.ensures
+    rw (next_table_insert (asked start) (filled start) c.in-7.is) c.insert-in-7.ensures
 
-returns_5 : tie.Need-returns-5
+returns_5 : tie.Need-returns-in-11
 returns_5 c =
     let start = c.before.before in
-    rw (next_modify (asked start) (filled start) c.before.match.keys5) c.modify.ensures
+    rw (next_modify (asked start) (filled start) c.in-11.is) c.modify.ensures
 
-returns_6 : tie.Need-returns-6
+returns_6 : tie.Need-returns-in_default
 returns_6 c =
-    let args = c.before.args in
-    let rest = c.match.rest in
+    let args = c.args in
+    let rest = c.in_default.in_default-own.rest in
     unchanged_holds args.operation args.rows args.count
     rest.0.0.0.0.1 rest.0.0.0.1 rest.0.0.1 rest.0.1 rest.1
 

@@ -11,46 +11,46 @@ use Rattle.replay.specs.Laws.Positions.{scan_on, scan_found, scan_past}
 use Rattle.replay.proofs.position.Statement.{statement}
 use Rattle.replay.proofs.position.Tie as tie
 
-abbrev invariant_loop : tie.invariant-loop
+abbrev invariant_loop : tie.invariant-loop-at
 invariant_loop rows count key filled at₀ at =
     (at ≤ length filled) × (at + position_of key (map row_of (drop at filled)) ≡ position_of key (map row_of filled))
 
-abbrev decreases_loop : tie.decreases-loop
+abbrev decreases_loop : tie.decreases-loop-at
 decreases_loop rows count key filled at₀ at = length filled - at
 
-slice_aggregate_filled : tie.Need-slice-aggregate-filled invariant_loop decreases_loop
-slice_aggregate_filled c = sym (length-take-le _ _ (omega (arith, c.before.whole.given.0)))
+slice_aggregate_filled : tie.Need-slice_bounds-filled-end invariant_loop decreases_loop
+slice_aggregate_filled c = sym (length-take-le _ _ (omega (arith, c.whole-1.given.0)))
 
-abbrev filled : tie.At-loop invariant_loop decreases_loop → List (List ℕ)
-filled c = let args = c.before.before.before.args in take args.count args.rows.now
+abbrev filled : tie.At-loop-at invariant_loop decreases_loop → List (List ℕ)
+filled c = let args = c.args in take args.count args.rows.now
 
-abbrev key : tie.At-loop invariant_loop decreases_loop → ℕ
-key c = c.before.before.before.args.key
+abbrev key : tie.At-loop-at invariant_loop decreases_loop → ℕ
+key c = c.args.key
 
-mul_if1 : tie.Need-overflow_mul-if1 invariant_loop decreases_loop
+mul_if1 : tie.Need-offset_bounds-filled-at invariant_loop decreases_loop
 mul_if1 c = omega (arith, slice_aggregate_filled c.before.before)
 
-returns : tie.Need-returns invariant_loop decreases_loop
+returns : tie.Need-returns-then-filled-at invariant_loop decreases_loop
 returns c =
     let at_loop = c.before.before.before in
-    sym (scan_found (key at_loop) (filled at_loop) at_loop.loop.at c.before.before.loop-test.true
-    (omega arith)) ∙ at_loop.loop.invariant.1
+    sym (scan_found (key at_loop) (filled at_loop) at_loop.loop-at.at c.loop-at-test.true
+    (omega arith)) ∙ at_loop.loop-at.invariant.1
 
 add_at : tie.Need-overflow_add-at invariant_loop decreases_loop
 add_at c = omega (arith, slice_aggregate_filled c.before.before.before.before)
 
-loop_again : tie.Need-loop-preserved invariant_loop decreases_loop
+loop_again : tie.Need-loop-at-preserved invariant_loop decreases_loop
 loop_again c =
     let at_loop = c.before.before.before in (
       search rules,
-      scan_on (key at_loop) (filled at_loop) at_loop.loop.at c.before.before.loop-test.true (omega arith)
-          ∙ at_loop.loop.invariant.1,
+      scan_on (key at_loop) (filled at_loop) at_loop.loop-at.at c.loop-at-test.true (omega arith)
+          ∙ at_loop.loop-at.invariant.1,
     )
 
-returns_2 : tie.Need-returns-2 invariant_loop decreases_loop
+returns_2 : tie.Need-returns invariant_loop decreases_loop
 returns_2 c =
-    sym (scan_past (key c.before) (filled c.before) c.before.loop.at c.loop-test.false)
-    ∙ c.before.loop.invariant.1
+    sym (scan_past (key c.before) (filled c.before) c.loop-at.at c.loop-at-test.false)
+    ∙ c.loop-at.invariant.1
 
 pub position_spec : {M : Type 1} → statement M
 position_spec =

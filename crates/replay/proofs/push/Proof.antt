@@ -8,7 +8,7 @@ use Rattle.replay.proofs.push.Tie as tie
 
 returns : tie.Need-returns
 returns c =
-    let size = c.well-formed.0.1.0.1 in
+    let size = c.well_formed.0.1.0.1 in
     pushed c.args.rows c.args.count (omega (arith, size)) (c.args.item ∷ 0 ∷ []) (omega (arith, size))
 
 pub push_spec : {M : Type 1} → statement M

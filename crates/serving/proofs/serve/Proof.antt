@@ -13,7 +13,7 @@ use Rattle.serving.proofs.serve.Statement.{statement}
 use Rattle.serving.proofs.serve.Tie as tie
 
 -- A batch's operations stand at the front of the array.
-operations-long : (c : tie.Start) → length c.args.asked.operations ≡ 64
+operations_long : (c : tie.Start) → length c.args.asked.operations ≡ 64
 operations_long c = search rules
 
 words_few : (c : tie.After-call3) → c.call3.given.0.1.0 ≤ 64

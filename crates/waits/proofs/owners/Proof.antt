@@ -73,7 +73,7 @@ reached c =
     }
 
 -- Its own, or another object's.
-scan-again : tie.Need-scan-preserved invariant_scan decreases_scan
+scan_again : tie.Need-scan-preserved invariant_scan decreases_scan
 scan_again c =
     ⊎_elim (λ w. pass_own (reached c.before) w.taken)
     (λ w. pass_other (reached c.before) (eqb-false _ _ (not-true _ w.1.taken)))
