@@ -24,7 +24,7 @@ abbrev filled : tie.Start → List Row
 filled s = rows_of s.args.rows.now s.args.count
 
 fits : (c : tie.After-whole-1) → c.args.count ≤ length c.args.rows.now
-fits c = omega (arith, c.whole-1.given.0)
+fits c = omega (arith, c.whole-1.given)
 
 slice_aggregate_filled : tie.Need-slice_bounds-filled-end
 slice_aggregate_filled c = sym (length-take-le _ _ (fits c))
@@ -38,7 +38,7 @@ lookup_requires c κs = c.requires.1 (omega (arith, c.in-9.is))
 present_requires_2 : tie.Need-present-requires-in-5
 present_requires_2 c κs =
     c.requires.1
-    (⊎_elim (λ w. ⊎_elim (λ e. omega arith) (λ e. omega arith) w.keys2) (λ w. w.2.left) c.in-5-1.branch-raw)
+    (⊎_elim (λ w. ⊎_elim (λ e. omega arith) (λ e. omega arith) w.in-8-1.keys2) (λ w. w.if-number-lt4-1.false) c.in-5-1.branch-raw)
 
 returns : tie.Need-returns-in-1
 returns c = answer_done (asked c.before.before) (filled c.before.before) c.in-1.is
@@ -63,22 +63,22 @@ returns_4 c =
 returns_5 : tie.Need-returns-in-2
 returns_5 c =
     let arm = c in
-    let start = arm.before.before.before.before.before in
+    let start = arm.before.before.before in
     c.top.ensures
-    ∙ answer_top (asked start) (filled start) arm.in_default.in_default-own.rest.0.0.0.0.1 c.if-number-lt1.false
-    c.if-number-lt4.true
+    ∙ answer_top (asked start) (filled start) arm.in-2.in_default-own.rest.0.0.0.0.1 c.in-2.if-number-lt1-own.false
+    c.in-2.if-number-lt4-own.true
 
 returns_6 : tie.Need-returns-in_default
 returns_6 c =
-    let start = c.before.before.before in
-    answer_below (asked start) (filled start) c.if-number-lt1.true
+    let start = c.before.before in
+    answer_below (asked start) (filled start) c.in_default.if-number-lt1-own.true
 
 returns_7 : tie.Need-returns-in_default-2
 returns_7 c =
     let arm = c in
-    let start = arm.before.before.before.before.before in
+    let start = arm.before.before in
     let rest = arm.in_default.in_default-own.rest in
-    answer_above (asked start) (filled start) rest.0.0.0.1 rest.0.0.1 rest.0.1 rest.1 c.if-number-lt7.false
+    answer_above (asked start) (filled start) rest.0.0.0.1 rest.0.0.1 rest.0.1 rest.1 c.in_default.if-number-lt7-own.false
 
 returns_8 : tie.Need-returns-in-5
 returns_8 c =
@@ -86,8 +86,8 @@ returns_8 c =
     c.flag-in-5.ensures
     ∙ ap flag c.present-in-5.ensures
     ∙ ⊎_elim
-    (λ w. answer_present (asked start) (filled start) w.keys2)
-    (λ w. answer_present_set (asked start) (filled start) w.0.rest.0.0.0.0.1 w.2.left w.3.taken)
+    (λ w. answer_present (asked start) (filled start) w.in-8-1.keys2)
+    (λ w. answer_present_set (asked start) (filled start) w.in_default-1.rest.0.0.0.0.1 w.if-number-lt4-1.false w.if-number-lt7-1.true)
     c.in-5-1.branch-raw
 
 pub answer_spec : {M : Type 1} → statement M

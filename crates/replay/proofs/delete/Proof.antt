@@ -9,7 +9,7 @@ use Rattle.replay.specs.Laws.Copies.{within, deleted_removed, deleted_kept}
 use Rattle.replay.proofs.delete.Statement.{statement}
 use Rattle.replay.proofs.delete.Tie as tie
 
-fits : (c : tie.Start) → c.args.count ≤ length c.args.rows-1
+fits : (c : tie.Start) → c.args.count ≤ length c.args.rows
 fits c = omega (arith, c.well_formed.0.1.0.1)
 
 slice_aggregate_present : tie.Need-slice_bounds-present-end

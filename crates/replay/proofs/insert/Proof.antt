@@ -10,7 +10,7 @@ use Rattle.replay.specs.Laws.Copies.{room, inserted_kept, inserted_put}
 use Rattle.replay.proofs.insert.Statement.{statement}
 use Rattle.replay.proofs.insert.Tie as tie
 
-fits : (c : tie.Start) → c.args.count ≤ length c.args.rows-1
+fits : (c : tie.Start) → c.args.count ≤ length c.args.rows
 fits c = omega (arith, c.well_formed.0.1.0.1)
 
 slice_aggregate_present : tie.Need-slice_bounds-present-end
@@ -21,7 +21,7 @@ open_at_requires c κs =
     let test = c in
     let start = test.before.before.before.before in
     let (within, below) =
-    room _ _ (fits start) _ _ start.requires.2 _ 64 (sym test.present.ensures ∙ not-true _ c.if-not-present.true)
+    room _ _ (fits start) _ _ start.requires.2 _ 64 (sym test.present.ensures ∙ c.if-not-present.true)
     start.requires.1 in
     (within, below, omega (arith, start.well_formed.0.1.0.1))
 
@@ -30,13 +30,13 @@ returns c =
     let test = c in
     let start = test.before.before.before.before.before in
     inserted_put _ _ (fits start) _ _ start.requires.2 _ _
-    (sym test.present.ensures ∙ not-true _ c.if-not-present.true) c.open_at.ensures
+    (sym test.present.ensures ∙ c.if-not-present.true) c.open_at.ensures
 
 returns_2 : tie.Need-returns-else-not-present
 returns_2 c =
     let start = c.before.before.before in
     inserted_kept _ _ (fits start) _ _ start.requires.2 _
-    (sym c.present.ensures ∙ not-false _ c.if-not-present.false)
+    (sym c.present.ensures ∙ c.if-not-present.false)
 
 pub insert_spec : {M : Type 1} → statement M
 insert_spec =

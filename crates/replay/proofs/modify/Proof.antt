@@ -9,7 +9,7 @@ use Rattle.replay.specs.Laws.Copies.{within, modified_set, modified_kept}
 use Rattle.replay.proofs.modify.Statement.{statement}
 use Rattle.replay.proofs.modify.Tie as tie
 
-fits : (c : tie.Start) → c.args.count ≤ length c.args.rows-1
+fits : (c : tie.Start) → c.args.count ≤ length c.args.rows
 fits c = omega (arith, c.well_formed.0.1.0.1)
 
 inside : (c : tie.Then-present) → let start = c.before.before.before in start.args.at < start.args.count

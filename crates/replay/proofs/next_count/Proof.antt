@@ -13,7 +13,7 @@ use Rattle.replay.proofs.next_count.Statement.{statement}
 use Rattle.replay.proofs.next_count.Tie as tie
 
 fits : (c : tie.After-whole-1) → c.args.count ≤ length c.args.rows.now
-fits c = omega (arith, c.whole-1.given.0)
+fits c = omega (arith, c.whole-1.given)
 
 slice_aggregate_filled : tie.Need-slice_bounds-filled-end
 slice_aggregate_filled c = sym (length-take-le _ _ (fits c))

@@ -19,7 +19,7 @@ abbrev decreases_loop : tie.decreases-loop-at
 decreases_loop rows count key filled at₀ at = length filled - at
 
 slice_aggregate_filled : tie.Need-slice_bounds-filled-end invariant_loop decreases_loop
-slice_aggregate_filled c = sym (length-take-le _ _ (omega (arith, c.whole-1.given.0)))
+slice_aggregate_filled c = sym (length-take-le _ _ (omega (arith, c.whole-1.given)))
 
 abbrev filled : tie.At-loop-at invariant_loop decreases_loop → List (List ℕ)
 filled c = let args = c.args in take args.count args.rows.now
