@@ -14,7 +14,7 @@ add_book c =
     let args = count.before.before.before.args in
     omega (
       arith,
-      count_kept args.book.now _ count.entry-count.result
+      count_kept args.book-1.now _ count.entry_count-count.result
           (entry_words_of args.transaction args.object args.operation args.answer) put.put.ensures,
     )
 
@@ -24,8 +24,8 @@ returns c =
     let count = put.before.before in
     let start = count.before.before.before in
     let args = start.args in
-    λ o stored. appended_words args.book.now start.requires.0 _ _ _ _ start.requires.1
-    count.entry-count.ensures put.put.ensures
+    λ o stored. appended_words args.book-1.now start.requires.0 _ _ _ _ start.requires.1
+    count.entry_count-count.ensures put.put.ensures
     (words_stored args.transaction args.object args.operation args.answer o stored)
 
 pub append_spec : {M : Type 1} → statement M

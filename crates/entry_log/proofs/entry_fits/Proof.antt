@@ -10,49 +10,49 @@ use Rattle.entry_log.specs.Laws.Packing.{stored_read}
 use Rattle.entry_log.proofs.entry_fits.Statement.{statement}
 use Rattle.entry_log.proofs.entry_fits.Tie as tie
 
-abbrev Stored : tie.After-is-stored → Type 0
+abbrev Stored : tie.After-is_stored → Type 0
 Stored c = let args = c.before.before.before.args in AsStored args.book.now args.i
 
-tested : (c : tie.After-is-stored) → (c.is-stored.result ≡ true) ↔ Stored c
+tested : (c : tie.After-is_stored) → (c.is_stored.result ≡ true) ↔ Stored c
 tested c =
     let read = c.before in
     let args = read.before.before.args in
-    stored_read _ args.book.now args.i _ _ _ c.is-stored.ensures read.entry-operation.ensures
+    stored_read _ args.book.now args.i _ _ _ c.is_stored.ensures read.entry_operation.ensures
 
-stored : (c : tie.Else1) → Stored c.before
-stored c = (tested c.before).0 (not-false _ c.if1.false)
+stored : (c : tie.Else-not-is_stored) → Stored c.before
+stored c = (tested c.before).0 (not-false _ c.if-not-is_stored.false)
 
-returns : tie.Need-returns
-returns c = no refl (λ p. denied (tested c.before) (not-true _ c.if1.true) p.0)
+returns : tie.Need-returns-then-not-is_stored
+returns c = no refl (λ p. denied (tested c.before) (not-true _ c.if-not-is_stored.true) p.0)
 
-returns_2 : tie.Need-returns-2
-returns_2 c = no refl (λ p. denied c.before.is_live.ensures (not-true _ c.if2.true) p.1)
+returns_2 : tie.Need-returns-then-not-is_live
+returns_2 c = no refl (λ p. denied c.before.is_live.ensures (not-true _ c.if-not-is_live.true) p.1)
 
-of_kind_requires : tie.Need-of-kind-requires
+of_kind_requires : tie.Need-of_kind-requires
 of_kind_requires c κs =
     let tested = c.before.before in
     let start = tested.before.before.before.before in
     (start.requires.0, start.requires.1, stored tested)
 
-is_reduced_requires : tie.Need-is-reduced-requires
+is_reduced_requires : tie.Need-is_reduced-requires
 is_reduced_requires c κs = of_kind_requires c.before.before κs
 
-returns_3 : tie.Need-returns-3
+returns_3 : tie.Need-returns-then-of_kind
 returns_3 c =
     let kind = c.before.before in
     let live = kind.before.before in
-    let reduced = c.is-reduced.ensures in (
+    let reduced = c.is_reduced.ensures in (
       λ q. (
         stored live.before,
-        live.is_live.ensures.0 (not-false _ kind.before.if2.false),
-        kind.of-kind.ensures.0 c.before.if3.true,
+        live.is_live.ensures.0 (not-false _ kind.before.if-not-is_live.false),
+        kind.of_kind.ensures.0 c.before.if-of_kind.true,
         reduced.0 q,
       ),
       λ p. reduced.1 p.3,
     )
 
-returns_4 : tie.Need-returns-4
-returns_4 c = no c.if3.false (λ p. denied c.before.of-kind.ensures c.if3.false p.2)
+returns_4 : tie.Need-returns-else-of_kind
+returns_4 c = no c.if-of_kind.false (λ p. denied c.before.of_kind.ensures c.if-of_kind.false p.2)
 
 pub entry_fits_spec : {M : Type 1} → statement M
 entry_fits_spec =

@@ -10,36 +10,36 @@ use Rattle.entry_log.specs.Laws.Fitting.{each_fits}
 use Rattle.entry_log.proofs.fits.Statement.{statement}
 use Rattle.entry_log.proofs.fits.Tie as tie
 
-abbrev invariant_loop : tie.invariant-loop
+abbrev invariant_loop : tie.invariant-loop-i
 invariant_loop book live count i₀ i = (i ≤ count) × ((k : ℕ) → k < i → EntryAdmitted book k)
 
-abbrev decreases_loop : tie.decreases-loop
+abbrev decreases_loop : tie.decreases-loop-i
 decreases_loop book live count i₀ i = count - i
 
-loop_holds : tie.Need-loop-init invariant_loop decreases_loop
+loop_holds : tie.Need-loop-i-init invariant_loop decreases_loop
 loop_holds c = (search rules, below_none _)
 
-returns : tie.Need-returns invariant_loop decreases_loop
+returns : tie.Need-returns-then-not-entry_fits invariant_loop decreases_loop
 returns c =
     let at_loop = c.before.before.before in
     let book = at_loop.before.before.before.args.book.now in
-    Iff.trans (each_refuted (EntryAdmitted book) _ _ _ c.before.before.loop-test.true
-    (not-true _ c.if1.true) c.before.entry-fits.ensures)
-    (each_fits book _ at_loop.before.entry-count.ensures)
+    Iff.trans (each_refuted (EntryAdmitted book) _ _ _ c.before.before.loop-i-test.true
+    (not-true _ c.if-not-entry_fits.true) c.before.entry_fits.ensures)
+    (each_fits book _ at_loop.before.entry_count-count.ensures)
 
-loop_again : tie.Need-loop-preserved invariant_loop decreases_loop
+loop_again : tie.Need-loop-i-preserved invariant_loop decreases_loop
 loop_again c = (
   search rules,
-  below_more _ _ c.before.before.before.loop.invariant.1
-      (c.before.entry-fits.ensures.0 (not-false _ c.if1.false)),
+  below_more _ _ c.before.before.before.loop-i.invariant.1
+      (c.before.entry_fits.ensures.0 (not-false _ c.if-not-entry_fits.false)),
 )
 
-returns_2 : tie.Need-returns-2 invariant_loop decreases_loop
+returns_2 : tie.Need-returns invariant_loop decreases_loop
 returns_2 c =
     let at_loop = c.before in
     let book = at_loop.before.before.before.args.book.now in
-    Iff.trans (each_shown (EntryAdmitted book) _ _ c.loop-test.false at_loop.loop.invariant.1)
-    (each_fits book _ at_loop.before.entry-count.ensures)
+    Iff.trans (each_shown (EntryAdmitted book) _ _ c.loop-i-test.false at_loop.loop-i.invariant.1)
+    (each_fits book _ at_loop.before.entry_count-count.ensures)
 
 pub fits_spec : {M : Type 1} → statement M
 fits_spec =

@@ -13,9 +13,9 @@ returns c =
     let object = operation.before.before in
     let transaction = object.before.before in
     let args = transaction.before.before.before.args in
-    words_moved args.book.now _ args.from (entry_start args.to) _ _ _ _
-    transaction.entry-transaction.ensures object.entry-object.ensures
-    operation.entry-operation.ensures answer.entry-answer.ensures put.put.ensures
+    words_moved args.book-1.now _ args.from (entry_start args.to) _ _ _ _
+    transaction.entry_transaction-transaction.ensures object.entry_object-object.ensures
+    operation.entry_operation-operation.ensures answer.entry_answer-answer.ensures put.put.ensures
 
 pub move_entry_spec : {M : Type 1} → statement M
 move_entry_spec =

@@ -6,11 +6,11 @@ use Rattle.entry_log.specs.Laws.Writing.{dropped_words}
 use Rattle.entry_log.proofs.remove.Statement.{statement}
 use Rattle.entry_log.proofs.remove.Tie as tie
 
-same_length : tie.Need-same-length
+same_length : tie.Need-shape_of-book
 same_length c =
     let cleared = c.before.before in
     let gathered = cleared.before.before.before.before in
-    simp length-set (cleared.clear.auto.0 ∙ gathered.gather.auto.0)
+    simp length-set (cleared.clear.auto.0 ∙ gathered.gather-kept.auto.0)
 
 returns : tie.Need-returns
 returns c =
@@ -19,7 +19,7 @@ returns c =
     let counted = gathered.before.before in
     let start = counted.before.before.before in
     dropped_words start.args.book.now start.requires start.args.transaction _ _ _ _
-    counted.entry-count.ensures gathered.gather.ensures cleared.clear.ensures
+    counted.entry_count-count.ensures gathered.gather-kept.ensures cleared.clear.ensures
 
 pub remove_spec : {M : Type 1} → statement M
 remove_spec =

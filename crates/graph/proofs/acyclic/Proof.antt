@@ -5,24 +5,24 @@ use Rattle.graph.specs.Laws.Peeling.{Peeling, peel_begun, peel_turned, peel_less
 use Rattle.graph.proofs.acyclic.Statement.{statement}
 use Rattle.graph.proofs.acyclic.Tie as tie
 
-abbrev invariant_loop : tie.invariant-loop
+abbrev invariant_loop : tie.invariant-loop-left
 invariant_loop edges finished left₀ left = Peeling (EdgeIn edges) finished left
 
-abbrev decreases_loop : tie.decreases-loop
+abbrev decreases_loop : tie.decreases-loop-left
 decreases_loop edges finished left₀ left = left
 
-returns : tie.Need-returns invariant_loop decreases_loop
+returns : tie.Need-returns-then-held-left invariant_loop decreases_loop
 returns c =
     let near = c.before in
     let loop = near.before in
-    peel_ended _ _ _ _ loop.loop.invariant near.near-predecessors.ensures c.if1.true
+    peel_ended _ _ _ _ loop.loop-left.invariant near.near_predecessors-held.ensures c.if-held-left.true
     loop.before.ranges.finished.fits
 
-loop_less : tie.Need-loop-smaller invariant_loop decreases_loop
-loop_less c = peel_less _ _ _ _ c.before.before.loop.invariant c.before.near-predecessors.ensures c.if1.false
+loop_less : tie.Need-loop-left-smaller invariant_loop decreases_loop
+loop_less c = peel_less _ _ _ _ c.before.before.loop-left.invariant c.before.near_predecessors-held.ensures c.if-held-left.false
 
-loop_again : tie.Need-loop-preserved invariant_loop decreases_loop
-loop_again c = peel_turned _ _ _ _ c.before.before.loop.invariant c.before.near-predecessors.ensures
+loop_again : tie.Need-loop-left-preserved invariant_loop decreases_loop
+loop_again c = peel_turned _ _ _ _ c.before.before.loop-left.invariant c.before.near_predecessors-held.ensures
 
 pub acyclic_spec : {M : Type 1} → statement M
 acyclic_spec =

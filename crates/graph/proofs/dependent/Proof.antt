@@ -8,32 +8,32 @@ use Rattle.graph.specs.Laws.Near.{Depends, somebody}
 use Rattle.graph.proofs.dependent.Statement.{statement}
 use Rattle.graph.proofs.dependent.Tie as tie
 
-abbrev invariant_loop : tie.invariant-loop
+abbrev invariant_loop : tie.invariant-loop-remaining
 invariant_loop edges finished remaining₀ remaining = Walk (Depends edges) finished remaining
 
-abbrev decreases_loop : tie.decreases-loop
+abbrev decreases_loop : tie.decreases-loop-remaining
 decreases_loop edges finished remaining₀ remaining = remaining
 
-loop_holds : tie.Need-loop-init invariant_loop decreases_loop
+loop_holds : tie.Need-loop-remaining-init invariant_loop decreases_loop
 loop_holds c = walk_begun _ _
 
-returns : tie.Need-returns invariant_loop decreases_loop
+returns : tie.Need-returns-then-ready invariant_loop decreases_loop
 returns c =
     no refl
-    (walk_stopped _ _ _ _ c.before.before.before.before.loop.invariant c.before.before.lowest.ensures.member
-    (λ on. c.before.ready.ensures.0 c.if1.true on.0 on.1))
+    (walk_stopped _ _ _ _ c.before.before.before.before.loop-remaining.invariant c.before.before.lowest-transaction.ensures.member
+    (λ on. c.before.ready.ensures.0 c.if-ready.true on.0 on.1))
 
-loop_less : tie.Need-loop-smaller invariant_loop decreases_loop
-loop_less c = rest_less _ _ _ c.without.ensures c.before.before.before.lowest.ensures.member
+loop_less : tie.Need-loop-remaining-smaller invariant_loop decreases_loop
+loop_less c = rest_less _ _ _ c.without-remaining.ensures c.before.before.before.lowest-transaction.ensures.member
 
-loop_again : tie.Need-loop-preserved invariant_loop decreases_loop
+loop_again : tie.Need-loop-remaining-preserved invariant_loop decreases_loop
 loop_again c =
-    walk_turned _ _ _ _ _ c.before.before.before.before.before.loop.invariant
-    (somebody _ (denied c.before.before.ready.ensures c.before.if1.false))
-    c.without.ensures
+    walk_turned _ _ _ _ _ c.before.before.before.before.before.loop-remaining.invariant
+    (somebody _ (denied c.before.before.ready.ensures c.before.if-ready.false))
+    c.without-remaining.ensures
 
-returns_2 : tie.Need-returns-2 invariant_loop decreases_loop
-returns_2 c = yes refl (walk_ended _ _ _ c.before.loop.invariant c.loop-test.false)
+returns_2 : tie.Need-returns invariant_loop decreases_loop
+returns_2 c = yes refl (walk_ended _ _ _ c.before.loop-remaining.invariant c.loop-remaining-test.false)
 
 pub dependent_spec : {M : Type 1} → statement M
 dependent_spec =

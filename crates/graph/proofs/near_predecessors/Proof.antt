@@ -7,38 +7,38 @@ use Rattle.graph.specs.Laws.Near.{Depending, depends_on_one, depends_on_none, ne
 use Rattle.graph.proofs.near_predecessors.Statement.{statement}
 use Rattle.graph.proofs.near_predecessors.Tie as tie
 
-abbrev invariant_loop : tie.invariant-loop
+abbrev invariant_loop : tie.invariant-loop-left
 invariant_loop edges among set found₀ left₀ found left = Collecting (Depending edges set) among left found
 
-abbrev decreases_loop : tie.decreases-loop
+abbrev decreases_loop : tie.decreases-loop-left
 decreases_loop edges among set found₀ left₀ found left = left
 
-loop_less : tie.Need-loop-smaller invariant_loop decreases_loop
-loop_less c = rest_less _ _ _ c.without.ensures c.before.before.before.before.lowest.ensures.member
+loop_less : tie.Need-loop-left-smaller invariant_loop decreases_loop
+loop_less c = rest_less _ _ _ c.without-left.ensures c.before.before.before.before.lowest-transaction.ensures.member
 
-loop_again : tie.Need-loop-preserved invariant_loop decreases_loop
+loop_again : tie.Need-loop-left-preserved invariant_loop decreases_loop
 loop_again c =
     let meet = c.before.before in
     let next = meet.before.before in
-    let loop = next.before.before.loop in
+    let loop = next.before.before.loop-left in
     let args = next.before.before.before.args in
     let on = meet.before.dependencies.ensures in
-    collect_turned _ _ _ _ loop.found _ _ loop.invariant next.lowest.ensures.member
+    collect_turned _ _ _ _ loop.found _ _ loop.invariant next.lowest-transaction.ensures.member
     (⊎_elim
     (λ w. rw w.3
-    (depends_on_one args.edges.now args.set next.lowest.result _ _ _ on meet.meet.ensures _ _
+    (depends_on_one args.edges.now args.set next.lowest-transaction.result _ _ _ on meet.meet.ensures _ _
     w.0.taken w.1.ensures w.2.ensures))
     (λ w. rw w.1
-    (depends_on_none args.edges.now args.set next.lowest.result loop.found _ _ on meet.meet.ensures
+    (depends_on_none args.edges.now args.set next.lowest-transaction.result loop.found _ _ on meet.meet.ensures
     w.0.left))
-    c.before.if1.branch)
-    c.without.ensures
+    c.before.if-meet-ne0.branch-raw)
+    c.without-left.ensures
 
 returns : tie.Need-returns invariant_loop decreases_loop
 returns c =
     let args = c.before.before.args in
     near_predecessors args.edges.now args.set _ _
-    (collect_ended _ _ _ _ c.before.loop.invariant c.loop-test.false)
+    (collect_ended _ _ _ _ c.before.loop-left.invariant c.loop-left-test.false)
 
 pub near_predecessors_spec : {M : Type 1} → statement M
 near_predecessors_spec =

@@ -8,36 +8,36 @@ use Rattle.graph.specs.Laws.Gathering.{predecessors_gathered}
 use Rattle.graph.proofs.predecessors.Statement.{statement}
 use Rattle.graph.proofs.predecessors.Tie as tie
 
-abbrev invariant_loop : tie.invariant-loop
+abbrev invariant_loop : tie.invariant-loop-found
 invariant_loop edges finished transaction own others found₀ found =
     Gathering (Reversed (EdgeIn edges)) others transaction found
 
-abbrev decreases_loop : tie.decreases-loop
+abbrev decreases_loop : tie.decreases-loop-found
 decreases_loop edges finished transaction own others found₀ found = 2 ^ 64 - found
 
-abbrev at_loop : tie.After-near-predecessors invariant_loop decreases_loop → tie.At-loop invariant_loop decreases_loop
+abbrev at_loop : tie.After-near_predecessors-more invariant_loop decreases_loop → tie.At-loop-found invariant_loop decreases_loop
 at_loop c = c.before.before
 
-turn : (c : tie.After-near-predecessors invariant_loop decreases_loop)
+turn : (c : tie.After-near_predecessors-more invariant_loop decreases_loop)
     → let loop = at_loop c in
     let args = loop.before.before.before.args in
     let edges = args.edges.now in
-    Turn (Reversed (EdgeIn edges)) loop.before.without.result args.transaction loop.loop.found
-    c.near-predecessors.result
+    Turn (Reversed (EdgeIn edges)) loop.before.without-others.result args.transaction loop.loop-found.found
+    c.near_predecessors-more.result
 turn c =
     let loop = at_loop c in
-    gather_turned _ _ _ _ _ _ _ loop.loop.inv loop.before.before.single.ensures c.before.join.ensures
-    c.near-predecessors.ensures
+    gather_turned _ _ _ _ _ _ _ loop.loop-found.inv loop.before.before.single-own.ensures c.before.join.ensures
+    c.near_predecessors-more.ensures
 
-returns : tie.Need-returns invariant_loop decreases_loop
+returns : tie.Need-returns-then-more-found invariant_loop decreases_loop
 returns c =
     let near = c.before in
-    predecessors_gathered _ _ _ _ ((turn near).ended c.if1.true _ (at_loop near).before.without.ensures)
+    predecessors_gathered _ _ _ _ ((turn near).ended c.if-more-found.true _ (at_loop near).before.without-others.ensures)
 
-loop_less : tie.Need-loop-smaller invariant_loop decreases_loop
-loop_less c = let near = c.before in omega (arith, (turn near).grows c.if1.false, near.near-predecessors.type-inv)
+loop_less : tie.Need-loop-found-smaller invariant_loop decreases_loop
+loop_less c = let near = c.before in omega (arith, (turn near).grows c.if-more-found.false, near.near_predecessors-more.type-inv)
 
-loop_again : tie.Need-loop-preserved invariant_loop decreases_loop
+loop_again : tie.Need-loop-found-preserved invariant_loop decreases_loop
 loop_again c = (turn c.before).again
 
 pub predecessors_spec : {M : Type 1} → statement M

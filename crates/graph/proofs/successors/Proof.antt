@@ -7,35 +7,35 @@ use Rattle.graph.specs.Laws.Gathering.{Gathering, Turn, gather_begun, gather_tur
 use Rattle.graph.proofs.successors.Statement.{statement}
 use Rattle.graph.proofs.successors.Tie as tie
 
-abbrev invariant_loop : tie.invariant-loop
+abbrev invariant_loop : tie.invariant-loop-found
 invariant_loop edges finished transaction own others found₀ found = Gathering (EdgeIn edges) others transaction found
 
-abbrev decreases_loop : tie.decreases-loop
+abbrev decreases_loop : tie.decreases-loop-found
 decreases_loop edges finished transaction own others found₀ found = 2 ^ 64 - found
 
-abbrev at_loop : tie.After-near-successors invariant_loop decreases_loop → tie.At-loop invariant_loop decreases_loop
+abbrev at_loop : tie.After-near_successors-more invariant_loop decreases_loop → tie.At-loop-found invariant_loop decreases_loop
 at_loop c = c.before.before
 
-turn : (c : tie.After-near-successors invariant_loop decreases_loop)
+turn : (c : tie.After-near_successors-more invariant_loop decreases_loop)
     → let loop = at_loop c in
     let args = loop.before.before.before.args in
     let edges = args.edges.now in
-    Turn (EdgeIn edges) loop.before.without.result args.transaction loop.loop.found
-    c.near-successors.result
+    Turn (EdgeIn edges) loop.before.without-others.result args.transaction loop.loop-found.found
+    c.near_successors-more.result
 turn c =
     let loop = at_loop c in
-    gather_turned _ _ _ _ _ _ _ loop.loop.inv loop.before.before.single.ensures c.before.join.ensures
-    c.near-successors.ensures
+    gather_turned _ _ _ _ _ _ _ loop.loop-found.inv loop.before.before.single-own.ensures c.before.join.ensures
+    c.near_successors-more.ensures
 
-returns : tie.Need-returns invariant_loop decreases_loop
+returns : tie.Need-returns-then-more-found invariant_loop decreases_loop
 returns c =
     let near = c.before in
-    (turn near).ended c.if1.true _ (at_loop near).before.without.ensures
+    (turn near).ended c.if-more-found.true _ (at_loop near).before.without-others.ensures
 
-loop_less : tie.Need-loop-smaller invariant_loop decreases_loop
-loop_less c = let near = c.before in omega (arith, (turn near).grows c.if1.false, near.near-successors.type-inv)
+loop_less : tie.Need-loop-found-smaller invariant_loop decreases_loop
+loop_less c = let near = c.before in omega (arith, (turn near).grows c.if-more-found.false, near.near_successors-more.type-inv)
 
-loop_again : tie.Need-loop-preserved invariant_loop decreases_loop
+loop_again : tie.Need-loop-found-preserved invariant_loop decreases_loop
 loop_again c = (turn c.before).again
 
 pub successors_spec : {M : Type 1} → statement M

@@ -13,9 +13,9 @@ returns c =
     let started = counted.before in
     let args = started.before.before.args in
     let words = args.book.now in
-    rows_copied words args.object _ c.copied.result counted.row_count.ensures
-    (subst (λ (i : ℕ). Copied (take (length words - i) (drop i words)) c.copied.result counted.row_count.result)
-    started.Rows-start.ensures c.copied.ensures)
+    rows_copied words args.object _ c.copied.result counted.row_count-count.ensures
+    (subst (λ (i : ℕ). Copied (take (length words - i) (drop i words)) c.copied.result counted.row_count-count.result)
+    started.rows_start-start.ensures c.copied.ensures)
 
 pub copied_rows_spec : {M : Type 1} → statement M
 copied_rows_spec =

@@ -6,20 +6,20 @@ use Rattle.layout.specs.Laws.{Seen, seen_start, seen_next, seen_all}
 use Rattle.layout.proofs.is_zero.Statement.{statement}
 use Rattle.layout.proofs.is_zero.Tie as tie
 
-abbrev invariant_loop : tie.invariant-loop
+abbrev invariant_loop : tie.invariant-loop-i
 invariant_loop part seen₀ i₀ seen i = (i ≤ length part) × Seen part i seen
 
-abbrev decreases_loop : tie.decreases-loop
+abbrev decreases_loop : tie.decreases-loop-i
 decreases_loop part seen₀ i₀ seen i = length part - i
 
-loop_holds : tie.Need-loop-init invariant_loop decreases_loop
+loop_holds : tie.Need-loop-i-init invariant_loop decreases_loop
 loop_holds c = (search rules, seen_start _)
 
-loop_again : tie.Need-loop-preserved invariant_loop decreases_loop
-loop_again c = (search rules, seen_next _ _ _ c.before.before.loop.invariant.1)
+loop_again : tie.Need-loop-i-preserved invariant_loop decreases_loop
+loop_again c = (search rules, seen_next _ _ _ c.before.before.loop-i.invariant.1)
 
 returns : tie.Need-returns invariant_loop decreases_loop
-returns c = seen_all _ _ _ c.loop-test.false c.before.loop.invariant.1
+returns c = seen_all _ _ _ c.loop-i-test.false c.before.loop-i.invariant.1
 
 pub is_zero_spec : {M : Type 1} → statement M
 is_zero_spec =

@@ -9,7 +9,7 @@ use Rattle.layout.proofs.object_kind.Tie as tie
 returns : tie.Need-returns
 returns c =
     let started = c.before in
-    ap (λ (i : ℕ). word started.before.before.args.book.now i) started.object-start.ensures
+    ap (λ (i : ℕ). word started.before.before.args.book.now i) started.object_start.ensures
 
 pub object_kind_spec : {M : Type 1} → statement M
 object_kind_spec =

@@ -10,7 +10,7 @@ returns : tie.Need-returns
 returns c =
     let started = c.before.before in
     c.wide.ensures
-    ∙ ap (λ (i : ℕ). word started.before.before.args.book.now (i + 1)) started.object-start.ensures
+    ∙ ap (λ (i : ℕ). word started.before.before.args.book.now (i + 1)) started.object_start.ensures
 
 pub row_count_spec : {M : Type 1} → statement M
 row_count_spec =

@@ -10,7 +10,7 @@ returns : tie.Need-returns
 returns c =
     let started = c.before in
     let args = started.before.before.args in
-    ap (λ (i : ℕ). word args.book.now (i + 2 * args.row)) started.Rows-start.ensures
+    ap (λ (i : ℕ). word args.book.now (i + 2 * args.row)) started.rows_start.ensures
 
 pub row_key_spec : {M : Type 1} → statement M
 row_key_spec =

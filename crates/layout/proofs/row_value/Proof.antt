@@ -10,7 +10,7 @@ returns : tie.Need-returns
 returns c =
     let started = c.before in
     let args = started.before.before.args in
-    ap (λ (i : ℕ). word args.book.now (i + 2 * args.row + 1)) started.Rows-start.ensures
+    ap (λ (i : ℕ). word args.book.now (i + 2 * args.row + 1)) started.rows_start.ensures
 
 pub row_value_spec : {M : Type 1} → statement M
 row_value_spec =

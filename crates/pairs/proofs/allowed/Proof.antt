@@ -4,23 +4,23 @@ use Rattle.operations.specs.PairRules.{always, never, apart, equal, agreeing}
 use Rattle.pairs.proofs.allowed.Statement.{statement}
 use Rattle.pairs.proofs.allowed.Tie as tie
 
-returns : tie.Need-returns
+returns : tie.Need-returns-in-0
 returns c never k e = refl
 returns c always k e = cc
 returns c apart k e = cc
 returns c equal k e = absurd k
 returns c agreeing k e = absurd k
 
-returns_2 : tie.Need-returns-2
+returns_2 : tie.Need-returns-in-1
 returns_2 c never k e = cc
 returns_2 c always k e = refl
 returns_2 c apart k e = cc
 returns_2 c equal k e = absurd k
 returns_2 c agreeing k e = absurd k
 
-returns_3 : tie.Need-returns-3
-returns_3 c never k e = absurd (c.before.before.match.rest.0.1 e)
-returns_3 c always k e = absurd (c.before.before.match.rest.1 e)
+returns_3 : tie.Need-returns-in_default
+returns_3 c never k e = absurd (c.before.before.in_default.in_default-own.rest.0.1 e)
+returns_3 c always k e = absurd (c.before.before.in_default.in_default-own.rest.1 e)
 returns_3 c apart k e = refl
 returns_3 c equal k e = absurd k
 returns_3 c agreeing k e = absurd k

@@ -8,39 +8,39 @@ use Rattle.statuses.specs.Laws.Count.{count_upto, count_start, count_more, count
 use Rattle.statuses.proofs.next_rank.Statement.{statement}
 use Rattle.statuses.proofs.next_rank.Tie as tie
 
-abbrev invariant_loop : tie.invariant-loop
+abbrev invariant_loop : tie.invariant-loop-transaction
 invariant_loop book count₀ transaction₀ count transaction =
     (transaction ≤ 64) × (count ≤ transaction) × (count ≡ count_upto book transaction)
 
-abbrev decreases_loop : tie.decreases-loop
+abbrev decreases_loop : tie.decreases-loop-transaction
 decreases_loop book count₀ transaction₀ count transaction = 64 - transaction
 
-loop_holds : tie.Need-loop-init invariant_loop decreases_loop
+loop_holds : tie.Need-loop-transaction-init invariant_loop decreases_loop
 loop_holds c = (omega arith, omega arith, sym (count_start c.before.args.book.now))
 
-loop_again : tie.Need-loop-preserved invariant_loop decreases_loop
+loop_again : tie.Need-loop-transaction-preserved invariant_loop decreases_loop
 loop_again c =
     let read = c.before in
-    let n = read.before.before.loop.transaction in
+    let n = read.before.before.loop-transaction.transaction in
     let book = read.before.before.before.before.args.book.now in
     ⊎_elim
     (λ w. (
       omega arith,
       omega arith,
-      omega (arith, count_more book n read.status-word.result read.status-word.ensures w.0.taken),
+      omega (arith, count_more book n read.status_word.result read.status_word.ensures w.0.taken),
     ))
     (λ w. (
       omega arith,
       omega arith,
-      omega (arith, count_same book n read.status-word.result read.status-word.ensures w.0.left),
+      omega (arith, count_same book n read.status_word.result read.status_word.ensures w.0.left),
     ))
-    c.if1.branch
+    c.if-status_word-gt-ACTIVE.branch-raw
 
 returns : tie.Need-returns invariant_loop decreases_loop
 unfolding count_upto
 returns c =
-    let e : c.before.loop.transaction ≡ 64 = omega arith in
-    c.before.loop.invariant.2 ∙ ap (count_upto c.before.before.before.args.book.now) e
+    let e : c.before.loop-transaction.transaction ≡ 64 = omega arith in
+    c.before.loop-transaction.invariant.2 ∙ ap (count_upto c.before.before.before.args.book.now) e
 
 pub next_rank_spec : {M : Type 1} → statement M
 next_rank_spec =

@@ -8,21 +8,21 @@ use Rattle.statuses.specs.Laws.Words.{noted_none, noted_again, noted_new}
 use Rattle.statuses.proofs.noted.Statement.{statement}
 use Rattle.statuses.proofs.noted.Tie as tie
 
-returns : tie.Need-returns
-returns c = noted_none c.before.args.ranks c.before.args.status c.if1.true
+returns : tie.Need-returns-then-status-lt-FIRST_RANK
+returns c = noted_none c.before.args.ranks c.before.args.status c.if-status-lt-FIRST_RANK.true
 
-returns_2 : tie.Need-returns-2
+returns_2 : tie.Need-returns-then-rank-ge-COUNT
 returns_2 c =
-    noted_again c.before.before.args.ranks c.before.before.args.status c.before.if1.false
-    (⊎_elim (λ w. inl w.taken) (λ w. inr (sym w.1.ensures ∙ w.2.taken)) c.if2.branch)
+    noted_again c.before.before.args.ranks c.before.before.args.status c.before.if-status-lt-FIRST_RANK.false
+    (⊎_elim (λ w. inl w.taken) (λ w. inr (sym w.1.ensures ∙ w.2.taken)) c.then-rank-ge-COUNT.branch-raw)
 
-returns_3 : tie.Need-returns-3
+returns_3 : tie.Need-returns
 returns_3 c =
     let asked = c.before.before.before in
     let args = asked.before.before.before.args in
-    noted_new args.ranks args.status asked.before.before.if1.false c.join.result
-    asked.before.if2.false
-    (sym asked.contains.ensures ∙ c.before.before.if3.false)
+    noted_new args.ranks args.status asked.before.before.if-status-lt-FIRST_RANK.false c.join.result
+    asked.before.if-rank-ge-COUNT.false
+    (sym asked.contains.ensures ∙ c.before.before.if-contains.false)
     (with_one args.ranks.seen (args.status - 2) c.before.single.result c.join.result
     c.before.single.ensures c.join.ensures)
 

@@ -10,25 +10,25 @@ use Rattle.statuses.specs.Laws.Sets.{with_one}
 use Rattle.statuses.proofs.statuses.Statement.{statement}
 use Rattle.statuses.proofs.statuses.Tie as tie
 
-abbrev invariant_loop : tie.invariant-loop
+abbrev invariant_loop : tie.invariant-loop-transaction
 invariant_loop book live₀ finished₀ ranks₀ transaction₀ live finished ranks transaction =
     (transaction ≤ 64) × Gathered book transaction live finished ranks
 
-abbrev decreases_loop : tie.decreases-loop
+abbrev decreases_loop : tie.decreases-loop-transaction
 decreases_loop book live₀ finished₀ ranks₀ transaction₀ live finished ranks transaction = 64 - transaction
 
-loop_holds : tie.Need-loop-init invariant_loop decreases_loop
+loop_holds : tie.Need-loop-transaction-init invariant_loop decreases_loop
 loop_holds c = (omega arith, pass_start c.before.args.book.now)
 
-loop_again : tie.Need-loop-preserved invariant_loop decreases_loop
+loop_again : tie.Need-loop-transaction-preserved invariant_loop decreases_loop
 loop_again c =
     let read = c.before in
     let at_loop = read.before.before in
-    let loop = at_loop.loop in
+    let loop = at_loop.loop-transaction in
     let book = at_loop.before.before.args.book.now in
     let gathered = loop.invariant.1 in
-    let below = read.before.loop-test.true in
-    let word = read.status-word.ensures in (
+    let below = read.before.loop-transaction-test.true in
+    let word = read.status_word-status.ensures in (
       omega arith,
       ⊎_elim
           (λ w. rw (w.5, w.6, w.7)
@@ -36,12 +36,12 @@ loop_again c =
           (with_one _ _ _ _ w.1.ensures w.2.ensures) w.3.ensures w.4.ensures))
           (λ w. rw (w.1, w.2, w.3)
           (pass_absent book _ _ _ _ gathered _ below word w.0.left))
-          c.if1.branch,
+          c.if-status-ne-ABSENT.branch-raw,
     )
 
 returns : tie.Need-returns invariant_loop decreases_loop
 returns c =
-    let loop = c.before.before.loop in
+    let loop = c.before.before.loop-transaction in
     let e : loop.transaction ≡ 64 = omega arith in
     let book = c.before.before.before.before.args.book.now in
     let found = pass_end book loop.live loop.finished loop.ranks (rw e at loop.invariant.1) in
