@@ -1,5 +1,6 @@
 // The calls for programs in other languages, by C's rules of calling: a slice is a pointer and a length. None asks
 // anything of its arguments.
+#![tactic(auto)]
 ghost use Rattle.std.specs.Prelude.{◌≡◌, []};
 ghost use Rattle.store.specs.Layout.{base};
 ghost use Rattle.store.specs.Decisions.{whether_sound};

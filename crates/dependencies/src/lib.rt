@@ -2,6 +2,7 @@
 // commute with. An entry is held against sets of owners, one for each operation of its object's kind, and not against
 // each earlier entry. Pushes onto one object, and modifies of one key, commute where their items, or values, are equal:
 // who has different ones is kept besides.
+#![tactic(auto)]
 ghost use Rattle.std.specs.Prelude.{◌≡◌, true, ◌↔◌, ◌+◌, ◌<◌, length, get_or, replicate};
 ghost use Rattle.store.specs.Store.{transaction_count};
 ghost use Rattle.bitset.specs.Bitset.{In, Represents};

@@ -1,4 +1,5 @@
 // Finish and cancel (document 01, "Calls", and 02, No. 4). Neither asks anything of its arguments.
+#![tactic(auto)]
 ghost use Rattle.std.specs.Prelude.{◌≡◌, []};
 ghost use Rattle.store.specs.Layout.{base};
 ghost use Rattle.store.specs.Decisions.{whether_sound};

@@ -1,5 +1,6 @@
 // The journal: definitions of its bytes, of a writer and of a reader, and theorems about them, in specs/; and the types
 // of records.
+#![tactic(auto)]
 use protocol::{BATCH, OPERATION_WORDS};
 
 // A record that cannot be read, or not written; `Cause` says why.
@@ -38,7 +39,7 @@ pub struct Record {
 }
 
 // Why a record cannot be read.
-#[derive(Drop)]
+#[derive(Clone, Copy)]
 pub enum Cause {
     Cut,
     Letter,

@@ -1,4 +1,5 @@
 // Numbers in groups of seven bits, read at a place of any bytes: one, several, or a count.
+#![tactic(auto)]
 ghost use Rattle.std.specs.Prelude.{◌≡◌, ◌+◌, ◌≤◌, ◌<◌, length, get_or, drop};
 ghost use Rattle.journal.specs.Groups.{number, numbers};
 ghost use Rattle.journal.specs.Reading.{count};
@@ -8,7 +9,7 @@ ghost use Rattle.journal_numbers.specs.Parts.{Reads, itself, after};
 use journal::{Cause, GROUPS};
 
 // What was read: a number, how many, or a set, and the place behind it.
-#[derive(Drop)]
+#[derive(Clone, Copy)]
 pub enum Found {
     Is(u64, usize),
     // 13: why, and the place of what cannot be read

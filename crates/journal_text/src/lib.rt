@@ -1,4 +1,5 @@
 // A journal as text, a line for each record.
+#![tactic(auto)]
 ghost use Rattle.journal_text.specs.Listed.{Listing};
 
 use journal_reader::Place;

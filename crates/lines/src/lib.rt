@@ -1,4 +1,5 @@
 // A line of a script, read as a call.
+#![tactic(auto)]
 ghost use Rattle.std.specs.Prelude.{◌≡◌, List, ℕ, ◌*◌, ◌≤◌, length, take, drop};
 ghost use Rattle.protocol.specs.Calls.{operation_words, batch_limit};
 ghost use Rattle.lines.specs.Lines.{asked, set_up_of, batch_of, call_in};
@@ -74,7 +75,7 @@ fn read_arguments(line: &[u8]) -> Arguments
                 values,
             };
         }
-        let end = bytes::scan::find(line, at + 1, line.len(), SPACE);
+        let end = text::find(line, at + 1, line.len(), SPACE);
         let field = text::read_number(&line[at + 1..end]);
         let Number::Is(value) = field else {
             return Arguments {

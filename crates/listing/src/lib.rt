@@ -1,4 +1,5 @@
 // A record of a journal, put into a buffer as a line of text.
+#![tactic(auto)]
 
 ghost use Rattle.std.specs.Prelude.{◌≡◌, true, ◌++◌, ◌+◌, ◌*◌, ◌≤◌, length};
 ghost use Rattle.bitset.specs.Bitset.{members};

@@ -1,4 +1,5 @@
 // Operations and answers as the book stores them, and the numbers of operations and kinds.
+#![tactic(auto)]
 ghost use Rattle.std.specs.Prelude.{◌≡◌};
 ghost use Rattle.operations.specs.Operations.{kind_number};
 ghost use Rattle.operations.specs.PairRules.{kind_numbered};
@@ -37,7 +38,7 @@ pub const SIZE: u32 = 10;
 pub const MODIFY: u32 = 11;
 
 // An operation as the book stores it: its number, key or item, and value.
-#[derive(Drop)]
+#[derive(Clone, Copy)]
 pub struct Operation {
     pub number: u32,
     pub key: u32,
@@ -46,7 +47,7 @@ pub struct Operation {
 
 // An answer: code and value. C reads it too.
 #[repr(C)]
-#[derive(Drop)]
+#[derive(Clone, Copy)]
 pub struct Answer {
     pub code: u32,
     pub value: u32,

@@ -1,4 +1,5 @@
 // The record of a served line, from its call and its reply.
+#![tactic(auto)]
 ghost use Rattle.std.specs.Prelude.{◌≡◌, true, [], ◌∷◌, ◌++◌, map, ◌*◌, ◌≤◌, min, length, take, drop};
 ghost use Rattle.std.proofs.Math.Option.{none, some};
 ghost use Rattle.operations.specs.Stored.{answer_of};

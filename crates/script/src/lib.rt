@@ -1,5 +1,6 @@
 // A script served as its bytes come: each line answered on the book, each reply put into a buffer and each record into
 // another.
+#![tactic(auto)]
 ghost use Rattle.std.specs.Prelude.{◌≡◌, true, ◌↔◌, ◌+◌, ◌≤◌, ◌<◌, length, take};
 ghost use Rattle.dispatch.specs.Replying.{most_printed, most_recorded};
 ghost use Rattle.script.specs.Sessions.{session, closing};
@@ -53,7 +54,7 @@ fn take_line(
     let at = from.at;
     let written = from.written;
     let recorded = from.recorded;
-    let end = bytes::scan::find(block, at, block.len(), LINE_FEED);
+    let end = text::find(block, at, block.len(), LINE_FEED);
     let kept = keep(line, from.kept, &block[at..end]);
     if end == block.len() {
         return Progress {

@@ -1,1 +1,2 @@
 // The store: definitions and theorems alone, in specs/.
+#![tactic(auto)]

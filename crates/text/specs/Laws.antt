@@ -6,3 +6,4 @@ pub mod Tests
 pub mod Lines
 pub mod ReadBack
 pub mod Shortest
+pub mod Finding

@@ -1,4 +1,5 @@
 pub mod Text
 pub mod Fields
+pub mod Finding
 pub mod Theorems
 pub mod Laws

@@ -1,7 +1,9 @@
 // Numbers in decimal, as bytes: read from a field, and put into a buffer.
+#![tactic(auto)]
 ghost use Rattle.std.specs.Prelude.{◌≡◌, ◌+◌, ◌≤◌, length};
 ghost use Rattle.text.specs.Text.{number_in, decimal};
 ghost use Rattle.text.specs.Fields.{number_said, Put};
+ghost use Rattle.text.specs.Finding.{index_of, slice};
 
 // What a field says.
 #[derive(Drop)]
@@ -48,12 +50,27 @@ fn wide(x: u8) -> u64
     x as u64
 }
 
+// The place of the first separator in the part of a text from one place to another, or the part's end.
+pub fn find(text: &[u8], from: usize, to: usize, separator: u8) -> usize
+    requires { (from ≤ to) × (to ≤ length text.now) }
+    ensures { (result ≡ from + index_of separator (slice from to text.now)) × (result ≤ to) }
+{
+    for at in from..to {
+        if text[at] == separator {
+            return at;
+        }
+    }
+    to
+}
+
 // Puts a text at a place of a buffer; the place behind it.
 pub fn put(out: &mut [u8], at: usize, text: &[u8]) -> usize
     requires { at + length text.now ≤ length out.old }
     ensures { Put out.old at text.now out.new result }
 {
-    at + bytes::copy(text, &mut out[at..])
+    let end = at + text.len();
+    out[at..end].copy_from_slice(text);
+    end
 }
 
 // Puts a number's digits, as few as say it.

@@ -5,5 +5,5 @@ use Rattle.answers.proofs.rows_needed.Tie as tie
 
 pub rows_needed_spec : {M : Type 1} → statement M
 rows_needed_spec =
-    tie.close (tie.spec (λ c. needed_one c.before.args.number c.match.keys1)
-    (λ c. needed_none c.before.args.number c.match.rest.1))
+    tie.close (tie.spec (λ c. needed_one c.before.args.number c.in-1.is)
+    (λ c. needed_none c.before.args.number c.in_default.in_default-own.rest.1))

@@ -11,71 +11,71 @@ use Rattle.answers.specs.Laws.Counting.{Counting, count_start, count_past, count
 use Rattle.answers.proofs.used.Statement.{statement}
 use Rattle.answers.proofs.used.Tie as tie
 
-abbrev invariant_loop : tie.invariant-loop
+abbrev invariant_loop : tie.invariant-loop-i
 invariant_loop book object used₀ entries i₀ used i = Counting book object i used
 
-abbrev decreases_loop : tie.decreases-loop
+abbrev decreases_loop : tie.decreases-loop-i
 decreases_loop book object used₀ entries i₀ used i = entries - i
 
-row_count_requires : tie.Need-row-count-requires invariant_loop decreases_loop
-row_count_requires c κs = (c.before.requires.0.words, c.before.requires.1)
+row_count_requires : tie.Need-row_count-used-requires invariant_loop decreases_loop
+row_count_requires c κs = (c.requires.0.words, c.requires.1)
 
-entry_count_requires : tie.Need-entry-count-requires invariant_loop decreases_loop
-entry_count_requires c κs = c.before.before.requires.0.words
+entry_count_requires : tie.Need-entry_count-entries-requires invariant_loop decreases_loop
+entry_count_requires c κs = c.requires.0.words
 
-abbrev begin : tie.At-loop invariant_loop decreases_loop → tie.Start invariant_loop decreases_loop
+abbrev begin : tie.At-loop-i invariant_loop decreases_loop → tie.Start invariant_loop decreases_loop
 begin c = c.before.before.before.before
 
-loop_holds : tie.Need-loop-init invariant_loop decreases_loop
+loop_holds : tie.Need-loop-i-init invariant_loop decreases_loop
 loop_holds c =
-    let start = c.before.before.before in
+    let start = c in
     count_start start.args.book.now start.requires.0 start.args.object start.requires.1
-    c.before.row_count.result c.before.row_count.ensures
+    c.row_count-used.result c.row_count-used.ensures
 
-inside : (c : tie.In-loop invariant_loop decreases_loop) → c.before.loop.i < word (begin c.before).args.book.now 0
-inside c = omega (arith, c.loop-test.true, c.before.before.entry-count.ensures)
+inside : (c : tie.In-loop-i invariant_loop decreases_loop) → c.loop-i.i < word (begin c.before).args.book.now 0
+inside c = omega (arith, c.loop-i-test.true, c.entry_count-entries.ensures)
 
-readable : (c : tie.In-loop invariant_loop decreases_loop)
-    → (length (begin c.before).args.book.now ≡ 3937) × (c.before.loop.i < 256)
-readable c = ((begin c.before).pre.0.words, omega (arith, inside c, (begin c.before).pre.0.log.entries))
+readable : (c : tie.In-loop-i invariant_loop decreases_loop)
+    → (length (begin c.before).args.book.now ≡ 3937) × (c.loop-i.i < 256)
+readable c = ((begin c.before).requires.0.words, omega (arith, inside c, (begin c.before).requires.0.log.entries))
 
-entry_object_requires : tie.Need-entry-object-requires invariant_loop decreases_loop
+entry_object_requires : tie.Need-entry_object-requires invariant_loop decreases_loop
 entry_object_requires c κs = readable c
 
-entry_operation_requires : tie.Need-entry-operation-requires invariant_loop decreases_loop
+entry_operation_requires : tie.Need-entry_operation-operation-requires invariant_loop decreases_loop
 entry_operation_requires c κs = readable c.before.before.before
 
 add_used : tie.Need-overflow_add-used invariant_loop decreases_loop
 add_used c =
     let in_loop = c.before.before.before.before.before in
-    let few = needed_few c.before.entry-operation.result.number in
-    omega (arith, in_loop.before.loop.invariant.bounded, (readable in_loop).1, c.rows-needed.ensures, few)
+    let few = needed_few c.entry_operation-operation.result.number in
+    omega (arith, in_loop.loop-i.invariant.bounded, (readable in_loop).1, c.rows_needed-used.ensures, few)
 
-loop_again : tie.Need-loop-preserved invariant_loop decreases_loop
+loop_again : tie.Need-loop-i-preserved invariant_loop decreases_loop
 loop_again c =
     let in_loop = c.before.before.before in
     let at_loop = in_loop.before in
     let start = begin at_loop in
     let book = start.args.book.now in
-    let object = c.before.wide.ensures ∙ c.before.before.entry-object.ensures in
+    let object = c.wide.ensures ∙ c.entry_object.ensures in
     ⊎_elim
     (λ w.
-    rw w.3
-    (count_own (record { packed = start.pre.0; inside = inside in_loop; words = w.1.ensures }) start.args.object
-    (sym object ∙ w.0.taken) at_loop.loop.used w.2.result at_loop.loop.invariant w.2.ensures))
+    rw w.used-is
+    (count_own (record { packed = start.requires.0; inside = inside in_loop; words = w.entry_operation-operation.ensures }) start.args.object
+    (sym object ∙ w.if-wide-object.true) at_loop.loop-i.used w.rows_needed-used.result at_loop.loop-i.invariant w.rows_needed-used.ensures))
     (λ w.
     rw w.1
-    (count_past book start.args.object at_loop.loop.i (inside in_loop) (λ e. w.0.left (object ∙ e))
-    at_loop.loop.used at_loop.loop.invariant))
-    c.if1.branch
+    (count_past book start.args.object at_loop.loop-i.i (inside in_loop) (λ e. w.0.left (object ∙ e))
+    at_loop.loop-i.used at_loop.loop-i.invariant))
+    c.if-wide-object.branch-raw
 
 returns : tie.Need-returns invariant_loop decreases_loop
 returns c =
     let at_loop = c.before in
     let start = begin at_loop in
-    count_end start.args.book.now start.args.object at_loop.loop.i
-    (omega (arith, c.loop-test.false, at_loop.before.entry-count.ensures))
-    at_loop.loop.used at_loop.loop.invariant
+    count_end start.args.book.now start.args.object at_loop.loop-i.i
+    (omega (arith, c.loop-i-test.false, at_loop.entry_count-entries.ensures))
+    at_loop.loop-i.used at_loop.loop-i.invariant
 
 pub used_spec : {M : Type 1} → statement M
 used_spec =

@@ -9,22 +9,22 @@ use Rattle.entry_log.proofs.append.Tie as tie
 
 add_book : tie.Need-overflow_add-book
 add_book c =
-    let put = c.before.before.before in
-    let count = put.before.before in
-    let args = count.before.before.before.args in
+    let put = c in
+    let count = put in
+    let args = count.args in
     omega (
       arith,
-      count_kept args.book-1.now _ count.entry_count-count.result
+      count_kept args.book.now _ count.entry_count-count.result
           (entry_words_of args.transaction args.object args.operation args.answer) put.put.ensures,
     )
 
 returns : tie.Need-returns
 returns c =
-    let put = c.before.before.before in
-    let count = put.before.before in
-    let start = count.before.before.before in
+    let put = c in
+    let count = put in
+    let start = count in
     let args = start.args in
-    λ o stored. appended_words args.book-1.now start.requires.0 _ _ _ _ start.requires.1
+    λ o stored. appended_words args.book.now start.requires.0 _ _ _ _ start.requires.1
     count.entry_count-count.ensures put.put.ensures
     (words_stored args.transaction args.object args.operation args.answer o stored)
 

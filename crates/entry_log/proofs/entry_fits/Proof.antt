@@ -11,27 +11,27 @@ use Rattle.entry_log.proofs.entry_fits.Statement.{statement}
 use Rattle.entry_log.proofs.entry_fits.Tie as tie
 
 abbrev Stored : tie.After-is_stored → Type 0
-Stored c = let args = c.before.before.before.args in AsStored args.book.now args.i
+Stored c = let args = c.args in AsStored args.book.now args.i
 
 tested : (c : tie.After-is_stored) → (c.is_stored.result ≡ true) ↔ Stored c
 tested c =
-    let read = c.before in
-    let args = read.before.before.args in
+    let read = c in
+    let args = read.args in
     stored_read _ args.book.now args.i _ _ _ c.is_stored.ensures read.entry_operation.ensures
 
 stored : (c : tie.Else-not-is_stored) → Stored c.before
-stored c = (tested c.before).0 (not-false _ c.if-not-is_stored.false)
+stored c = (tested c.before).0 c.if-not-is_stored.false
 
 returns : tie.Need-returns-then-not-is_stored
-returns c = no refl (λ p. denied (tested c.before) (not-true _ c.if-not-is_stored.true) p.0)
+returns c = no refl (λ p. denied (tested c.before) c.if-not-is_stored.true p.0)
 
 returns_2 : tie.Need-returns-then-not-is_live
-returns_2 c = no refl (λ p. denied c.before.is_live.ensures (not-true _ c.if-not-is_live.true) p.1)
+returns_2 c = no refl (λ p. denied c.is_live.ensures c.if-not-is_live.true p.1)
 
 of_kind_requires : tie.Need-of_kind-requires
 of_kind_requires c κs =
     let tested = c.before.before in
-    let start = tested.before.before.before.before in
+    let start = tested in
     (start.requires.0, start.requires.1, stored tested)
 
 is_reduced_requires : tie.Need-is_reduced-requires
@@ -39,20 +39,20 @@ is_reduced_requires c κs = of_kind_requires c.before.before κs
 
 returns_3 : tie.Need-returns-then-of_kind
 returns_3 c =
-    let kind = c.before.before in
-    let live = kind.before.before in
+    let kind = c in
+    let live = kind in
     let reduced = c.is_reduced.ensures in (
       λ q. (
-        stored live.before,
-        live.is_live.ensures.0 (not-false _ kind.before.if-not-is_live.false),
-        kind.of_kind.ensures.0 c.before.if-of_kind.true,
+        stored live.before.before.before.before.before,
+        live.is_live.ensures.0 kind.if-not-is_live.false,
+        kind.of_kind.ensures.0 c.if-of_kind.true,
         reduced.0 q,
       ),
       λ p. reduced.1 p.3,
     )
 
 returns_4 : tie.Need-returns-else-of_kind
-returns_4 c = no c.if-of_kind.false (λ p. denied c.before.of_kind.ensures c.if-of_kind.false p.2)
+returns_4 c = no c.if-of_kind.false (λ p. denied c.of_kind.ensures c.if-of_kind.false p.2)
 
 pub entry_fits_spec : {M : Type 1} → statement M
 entry_fits_spec =

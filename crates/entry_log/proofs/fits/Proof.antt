@@ -21,25 +21,25 @@ loop_holds c = (search rules, below_none _)
 
 returns : tie.Need-returns-then-not-entry_fits invariant_loop decreases_loop
 returns c =
-    let at_loop = c.before.before.before in
-    let book = at_loop.before.before.before.args.book.now in
-    Iff.trans (each_refuted (EntryAdmitted book) _ _ _ c.before.before.loop-i-test.true
-    (not-true _ c.if-not-entry_fits.true) c.before.entry_fits.ensures)
-    (each_fits book _ at_loop.before.entry_count-count.ensures)
+    let at_loop = c in
+    let book = at_loop.args.book.now in
+    Iff.trans (each_refuted (EntryAdmitted book) _ _ _ c.loop-i-test.true
+    c.if-not-entry_fits.true c.entry_fits.ensures)
+    (each_fits book _ at_loop.entry_count-count.ensures)
 
 loop_again : tie.Need-loop-i-preserved invariant_loop decreases_loop
 loop_again c = (
   search rules,
-  below_more _ _ c.before.before.before.loop-i.invariant.1
-      (c.before.entry_fits.ensures.0 (not-false _ c.if-not-entry_fits.false)),
+  below_more _ _ c.loop-i.invariant.1
+      (c.entry_fits.ensures.0 c.if-not-entry_fits.false),
 )
 
-returns_2 : tie.Need-returns invariant_loop decreases_loop
+returns_2 : tie.Need-returns-then-not-entry_fits invariant_loop decreases_loop
 returns_2 c =
-    let at_loop = c.before in
-    let book = at_loop.before.before.before.args.book.now in
+    let at_loop = c in
+    let book = at_loop.args.book.now in
     Iff.trans (each_shown (EntryAdmitted book) _ _ c.loop-i-test.false at_loop.loop-i.invariant.1)
-    (each_fits book _ at_loop.before.entry_count-count.ensures)
+    (each_fits book _ at_loop.entry_count-count.ensures)
 
 pub fits_spec : {M : Type 1} → statement M
 fits_spec =

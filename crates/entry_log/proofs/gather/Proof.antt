@@ -21,16 +21,16 @@ loop_holds c = (omega arith, gathered_none _ _)
 
 loop_again : tie.Need-loop-i-preserved invariant_loop decreases_loop
 loop_again c =
-    let read = c.before in
-    let in_loop = read.before.before in
-    let at_loop = in_loop.before in
-    let start = at_loop.before.before.before.before in
+    let read = c in
+    let in_loop = read in
+    let at_loop = in_loop in
+    let start = at_loop in
     let stored = start.requires.log.as_stored at_loop.loop-i.i
-    (omega (arith, at_loop.before.entry_count-count.ensures, in_loop.loop-i-test.true)) in (
+    (omega (arith, at_loop.entry_count-count.ensures, in_loop.loop-i-test.true)) in (
       omega arith,
       ⊎_elim
-          (λ w. rw (w.5, w.6) (gathered_kept _ _ _ _ _ at_loop.loop-i.invariant.1 _ _ stored
-          read.entry_transaction.ensures w.0.taken w.2.ensures))
+          (λ w. rw (w.book-is, w.kept-is) (gathered_kept _ _ _ _ _ at_loop.loop-i.invariant.1 _ _ stored
+          read.entry_transaction.ensures w.if-entry_transaction-transaction.true w.2.ensures))
           (λ w. rw (w.1, w.2)
           (gathered_own _ _ _ _ _ at_loop.loop-i.invariant.1 _ read.entry_transaction.ensures w.0.left))
           c.if-entry_transaction-transaction.branch-raw,
@@ -38,10 +38,10 @@ loop_again c =
 
 returns : tie.Need-returns invariant_loop decreases_loop
 returns c =
-    let at_loop = c.before in
-    let args = at_loop.before.before.before.before.args in
-    let e : at_loop.loop-i.i ≡ word args.book-1.now 0 = omega (arith, at_loop.before.entry_count-count.ensures) in
-    subst (λ i. Compacted args.book-1.now args.transaction i at_loop.loop-i.book-1 at_loop.loop-i.auto)
+    let at_loop = c in
+    let args = at_loop.args in
+    let e : at_loop.loop-i.i ≡ word args.book.now 0 = omega (arith, at_loop.entry_count-count.ensures) in
+    subst (λ i. Compacted args.book.now args.transaction i at_loop.loop-i.book at_loop.loop-i.auto)
     e at_loop.loop-i.invariant.1
 
 pub gather_spec : {M : Type 1} → statement M

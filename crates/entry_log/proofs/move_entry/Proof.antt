@@ -7,13 +7,13 @@ use Rattle.entry_log.proofs.move_entry.Tie as tie
 
 returns : tie.Need-returns
 returns c =
-    let put = c.before.before in
-    let answer = put.before.before in
-    let operation = answer.before.before in
-    let object = operation.before.before in
-    let transaction = object.before.before in
-    let args = transaction.before.before.before.args in
-    words_moved args.book-1.now _ args.from (entry_start args.to) _ _ _ _
+    let put = c in
+    let answer = put in
+    let operation = answer in
+    let object = operation in
+    let transaction = object in
+    let args = transaction.args in
+    words_moved args.book.now _ args.from (entry_start args.to) _ _ _ _
     transaction.entry_transaction-transaction.ensures object.entry_object-object.ensures
     operation.entry_operation-operation.ensures answer.entry_answer-answer.ensures put.put.ensures
 

@@ -8,16 +8,16 @@ use Rattle.entry_log.proofs.remove.Tie as tie
 
 same_length : tie.Need-shape_of-book
 same_length c =
-    let cleared = c.before.before in
-    let gathered = cleared.before.before.before.before in
-    simp length-set (cleared.clear.auto.0 ∙ gathered.gather-kept.auto.0)
+    let cleared = c in
+    let gathered = cleared in
+    simp length-set (cleared.clear.auto.book ∙ gathered.gather-kept.auto.book)
 
 returns : tie.Need-returns
 returns c =
-    let cleared = c.before.before in
-    let gathered = cleared.before.before.before.before in
-    let counted = gathered.before.before in
-    let start = counted.before.before.before in
+    let cleared = c in
+    let gathered = cleared in
+    let counted = gathered in
+    let start = counted in
     dropped_words start.args.book.now start.requires start.args.transaction _ _ _ _
     counted.entry_count-count.ensures gathered.gather-kept.ensures cleared.clear.ensures
 

@@ -7,7 +7,7 @@ use Rattle.std.proofs.Math.Option.{Option, none, some}
 use Rattle.std.proofs.lemmas.Bool.{lt-leb}
 use Rattle.std.proofs.Math.ListN.{drop}
 use Rattle.std.proofs.Math.Seq.{append_snoc, take-length}
-use Rattle.bytes.specs.Bytes.{index_of, slice}
+use Rattle.text.specs.Finding.{index_of, slice}
 use Rattle.text.specs.Text.{split, number_in}
 use Rattle.text.specs.Laws.Splitting.{further, Separated, split_first, separated}
 use Rattle.lines.specs.Lines.{with_first, numbers_in}

@@ -7,7 +7,7 @@ use Rattle.std.proofs.lemmas.Bool.{false≢true}
 use mathlib.Core.List.{List, [], ◌∷◌, ◌++◌}
 use borrow.Table.Steps.{cases}
 use Rattle.std.proofs.Math.Seq.{take-append-add}
-use Rattle.bytes.specs.Bytes.{slice, index_of}
+use Rattle.text.specs.Finding.{slice, index_of}
 use Rattle.text.specs.Fields.{Put}
 use Rattle.text.specs.Laws.Putting.{front, length_put}
 use Rattle.text.specs.Laws.Splitting.{Separated, separated}

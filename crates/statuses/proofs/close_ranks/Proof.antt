@@ -18,25 +18,25 @@ abbrev decreases_loop : tie.decreases-loop-t
 decreases_loop book₀ out t₀ book t = 64 - t
 
 loop_holds : tie.Need-loop-t-init invariant_loop decreases_loop
-loop_holds c = (omega arith, c.before.requires.words, refl)
+loop_holds c = (omega arith, c.requires.words, refl)
 
 loop_again : tie.Need-loop-t-preserved invariant_loop decreases_loop
 loop_again c =
-    let loop = c.before.before.before.loop-t in (
+    let loop = c.loop-t in (
       omega arith,
       length-set loop.book (1 + loop.t) c.lowered.result ∙ loop.invariant.1,
-      changed_turn (lowered_word c.before.before.before.before.before.args.out) loop.book loop.t
-          c.lowered.result c.before.before.loop-t-test.true c.lowered.ensures
+      changed_turn (lowered_word c.args.out) loop.book loop.t
+          c.lowered.result c.loop-t-test.true c.lowered.ensures
           ∙ loop.invariant.2,
     )
 
 same_length : tie.Need-shape_of-book invariant_loop decreases_loop
-same_length c = c.before.loop-t.invariant.1 ∙ sym c.before.before.before.requires.words
+same_length c = c.loop-t.invariant.1 ∙ sym c.requires.words
 
 returns : tie.Need-returns invariant_loop decreases_loop
 returns c =
-    let loop = c.before.loop-t in
-    let start = c.before.before.before in
+    let loop = c.loop-t in
+    let start = c in
     sym (changed_end (lowered_word start.args.out) loop.book loop.t c.loop-t-test.false)
     ∙ loop.invariant.2 ∙ all_lowered start.args.out start.args.book.now start.requires
 

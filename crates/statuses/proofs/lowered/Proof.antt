@@ -7,12 +7,12 @@ use Rattle.statuses.proofs.lowered.Tie as tie
 
 returns : tie.Need-returns-then-status-out
 returns c =
-    let args = c.before.before.args in
-    lowered_down args.out args.status c.before.if-status-ge-FIRST_RANK.true c.if-status-out.true
+    let args = c.args in
+    lowered_down args.out args.status c.if-status-ge-FIRST_RANK.true c.if-status-out.true
 
-returns_2 : tie.Need-returns
+returns_2 : tie.Need-returns-then-status-out
 returns_2 c =
-    let args = c.before.args in
+    let args = c.args in
     ⊎_elim (λ w. lowered_kept args.out args.status w.0.taken w.1.left)
     (λ w. unranked_kept args.out args.status w.left) c.else-status-ge-FIRST_RANK.branch-raw
 

@@ -16,31 +16,31 @@ abbrev decreases_loop : tie.decreases-loop-transaction
 decreases_loop book count₀ transaction₀ count transaction = 64 - transaction
 
 loop_holds : tie.Need-loop-transaction-init invariant_loop decreases_loop
-loop_holds c = (omega arith, omega arith, sym (count_start c.before.args.book.now))
+loop_holds c = (omega arith, omega arith, sym (count_start c.args.book.now))
 
 loop_again : tie.Need-loop-transaction-preserved invariant_loop decreases_loop
 loop_again c =
-    let read = c.before in
-    let n = read.before.before.loop-transaction.transaction in
-    let book = read.before.before.before.before.args.book.now in
+    let read = c in
+    let n = read.loop-transaction.transaction in
+    let book = read.args.book.now in
     ⊎_elim
     (λ w. (
       omega arith,
       omega arith,
-      omega (arith, count_more book n read.status_word.result read.status_word.ensures w.0.taken),
+      omega (arith, count_more book n read.status_word.result read.status_word.ensures w.if-status_word-gt-ACTIVE.true),
     ))
     (λ w. (
       omega arith,
       omega arith,
-      omega (arith, count_same book n read.status_word.result read.status_word.ensures w.0.left),
+      omega (arith, count_same book n read.status_word.result read.status_word.ensures w.if-status_word-gt-ACTIVE.false),
     ))
     c.if-status_word-gt-ACTIVE.branch-raw
 
 returns : tie.Need-returns invariant_loop decreases_loop
 unfolding count_upto
 returns c =
-    let e : c.before.loop-transaction.transaction ≡ 64 = omega arith in
-    c.before.loop-transaction.invariant.2 ∙ ap (count_upto c.before.before.before.args.book.now) e
+    let e : c.loop-transaction.transaction ≡ 64 = omega arith in
+    c.loop-transaction.invariant.2 ∙ ap (count_upto c.args.book.now) e
 
 pub next_rank_spec : {M : Type 1} → statement M
 next_rank_spec =

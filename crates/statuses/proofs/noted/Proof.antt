@@ -9,22 +9,22 @@ use Rattle.statuses.proofs.noted.Statement.{statement}
 use Rattle.statuses.proofs.noted.Tie as tie
 
 returns : tie.Need-returns-then-status-lt-FIRST_RANK
-returns c = noted_none c.before.args.ranks c.before.args.status c.if-status-lt-FIRST_RANK.true
+returns c = noted_none c.args.ranks c.args.status c.if-status-lt-FIRST_RANK.true
 
 returns_2 : tie.Need-returns-then-rank-ge-COUNT
 returns_2 c =
-    noted_again c.before.before.args.ranks c.before.before.args.status c.before.if-status-lt-FIRST_RANK.false
-    (⊎_elim (λ w. inl w.taken) (λ w. inr (sym w.1.ensures ∙ w.2.taken)) c.then-rank-ge-COUNT.branch-raw)
+    noted_again c.args.ranks c.args.status c.if-status-lt-FIRST_RANK.false
+    (⊎_elim (λ w. inl w.if-rank-ge-COUNT.true) (λ w. inr (sym w.contains.ensures ∙ w.if-contains.taken)) c.then-rank-ge-COUNT.branch-raw)
 
-returns_3 : tie.Need-returns
+returns_3 : tie.Need-returns-then-status-lt-FIRST_RANK
 returns_3 c =
-    let asked = c.before.before.before in
-    let args = asked.before.before.before.args in
-    noted_new args.ranks args.status asked.before.before.if-status-lt-FIRST_RANK.false c.join.result
-    asked.before.if-rank-ge-COUNT.false
-    (sym asked.contains.ensures ∙ c.before.before.if-contains.false)
-    (with_one args.ranks.seen (args.status - 2) c.before.single.result c.join.result
-    c.before.single.ensures c.join.ensures)
+    let asked = c in
+    let args = asked.args in
+    noted_new args.ranks args.status asked.if-status-lt-FIRST_RANK.false c.join.result
+    asked.if-rank-ge-COUNT.false
+    (sym asked.contains.ensures ∙ c.if-contains.false)
+    (with_one args.ranks.seen (args.status - 2) c.single.result c.join.result
+    c.single.ensures c.join.ensures)
 
 pub noted_spec : {M : Type 1} → statement M
 noted_spec =

@@ -18,21 +18,21 @@ abbrev decreases_loop : tie.decreases-loop-transaction
 decreases_loop book live₀ finished₀ ranks₀ transaction₀ live finished ranks transaction = 64 - transaction
 
 loop_holds : tie.Need-loop-transaction-init invariant_loop decreases_loop
-loop_holds c = (omega arith, pass_start c.before.args.book.now)
+loop_holds c = (omega arith, pass_start c.args.book.now)
 
 loop_again : tie.Need-loop-transaction-preserved invariant_loop decreases_loop
 loop_again c =
-    let read = c.before in
-    let at_loop = read.before.before in
+    let read = c in
+    let at_loop = read in
     let loop = at_loop.loop-transaction in
-    let book = at_loop.before.before.args.book.now in
+    let book = at_loop.args.book.now in
     let gathered = loop.invariant.1 in
-    let below = read.before.loop-transaction-test.true in
+    let below = read.loop-transaction-test.true in
     let word = read.status_word-status.ensures in (
       omega arith,
       ⊎_elim
-          (λ w. rw (w.5, w.6, w.7)
-          (pass_live book _ _ _ _ gathered _ _ _ _ below word w.0.taken
+          (λ w. rw (w.live-is, w.finished-is, w.ranks-is)
+          (pass_live book _ _ _ _ gathered _ _ _ _ below word w.if-status-ne-ABSENT.taken
           (with_one _ _ _ _ w.1.ensures w.2.ensures) w.3.ensures w.4.ensures))
           (λ w. rw (w.1, w.2, w.3)
           (pass_absent book _ _ _ _ gathered _ below word w.0.left))
@@ -41,9 +41,9 @@ loop_again c =
 
 returns : tie.Need-returns invariant_loop decreases_loop
 returns c =
-    let loop = c.before.before.loop-transaction in
+    let loop = c.loop-transaction in
     let e : loop.transaction ≡ 64 = omega arith in
-    let book = c.before.before.before.before.args.book.now in
+    let book = c.args.book.now in
     let found = pass_end book loop.live loop.finished loop.ranks (rw e at loop.invariant.1) in
     (found.0, found.1, Iff.trans c.in_order.ensures found.2)
 

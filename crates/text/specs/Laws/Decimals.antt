@@ -39,6 +39,7 @@ more_digits n large fits =
 length_within : (m k n : ℕ) → 1 ≤ k → n < 10 ^ k → length (decimal_within m n) ≤ k
 unfolding decimal_within
 length_within zero k n some few = omega arith
+length_within (suc m) zero n some few = absurd (omega arith)
 length_within (suc m) (suc zero) n some few = rw (within_one m n few) (omega arith)
 length_within (suc m) (suc (suc k)) n some few =
     cases (ltb n 10)

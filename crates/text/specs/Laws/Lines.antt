@@ -3,7 +3,7 @@ use Rattle.std.specs.Prelude.{ℕ, zero, suc, ◌+◌, ◌/◌, ◌%◌, ◌≤�
 use Rattle.std.proofs.Common.{ap, append_assoc, arith, ne_eqb, eq-eqb}
 use Rattle.std.proofs.lemmas.Bool.{not-true}
 use borrow.Table.Steps.{cases}
-use Rattle.bytes.specs.Bytes.{index_of, index_after}
+use Rattle.text.specs.Finding.{index_of, index_after}
 use Rattle.text.specs.Text.{longer, split, decimal_within, decimal}
 use Rattle.text.specs.Laws.Tests.{left, right}
 

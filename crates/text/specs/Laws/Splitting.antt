@@ -4,7 +4,7 @@ use Rattle.std.proofs.Math.Path.{refl, ap}
 use Rattle.std.proofs.Math.Bool.{true, false}
 use mathlib.Core.List.{List, [], ◌∷◌}
 use borrow.Author.Tests.{eqb-true}
-use Rattle.bytes.specs.Bytes.{index_after, index_of}
+use Rattle.text.specs.Finding.{index_after, index_of}
 use Rattle.text.specs.Text.{longer, split}
 
 -- The pieces behind the first, from the separator on that ends it.
