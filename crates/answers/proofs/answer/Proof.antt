@@ -1,6 +1,7 @@
 -- `answers::answer`: after the entries to come, the rows carried give the request the answer that it gets after all.
 use Prim.Native.Nat.{◌+◌, ◌-◌, ◌≤◌, ◌<◌}
-use mathlib.Core.Path.{◌≡◌, sym, ◌∙◌}
+use mathlib.Core.Bool.{not}
+use mathlib.Core.Path.{ap, ◌≡◌, sym, ◌∙◌}
 use mathlib.Core.Logic.{⊎_elim}
 use native.Mathlib.Omega.{arith}
 use borrow.Author.Rules.{rules}
@@ -28,7 +29,7 @@ entry_count_requires c κs = c.requires.0.words
 
 copied_rows_requires : tie.Need-copied_rows-rows-requires invariant_loop decreases_loop
 copied_rows_requires c κs =
-    let (packed, l, room, request) = c.requires in (packed.words, l, (packed.objects _ l).rows-1)
+    let (packed, l, room, request) = c.requires in (packed.words, l, (packed.objects _ l).rows)
 
 row_count_requires : tie.Need-row_count-count-requires invariant_loop decreases_loop
 row_count_requires c κs = let start = c in (start.requires.0.words, start.requires.1)
@@ -128,17 +129,17 @@ loop_again c =
     (λ w.
     carry_own (record { packed = start.requires.0; inside = inside in_loop; words = w.entry_operation-logged.ensures }) start.args.object
     (sym object ∙ w.if-on-object.true) requested state.rows state.count (state.invariant requested request) c.if-on-object.rows
-    c.if-on-object.count (rw w.rows-is w.8.ensures) (w.10 ∙ w.7.ensures))
+    c.if-on-object.count (rw w.rows-is w.next_rows-rows.ensures) (w.count-is ∙ w.next_count-next.ensures))
     (⊎_elim
     (λ w.
-    rw (w.4, w.5)
-    (carry_out (record { packed = start.pre.0; inside = inside in_loop; words = w.1.ensures }) start.args.object
-    (sym object ∙ w.0.taken) requested state.rows-1 state.count (state.invariant requested request)
-    start.args.operation request w.2.result w.2.ensures w.3.left))
+    rw (w.rows-is, w.count-is)
+    (carry_out (record { packed = start.requires.0; inside = inside in_loop; words = w.entry_operation-logged.ensures }) start.args.object
+    (sym object ∙ w.if-on-object.true) requested state.rows state.count (state.invariant requested request)
+    start.args.operation request w.recoverable.result w.recoverable.ensures (ap not w.if-not-recoverable.false)))
     (λ w.
     rw (w.1, w.2)
     (carry_past start.args.book.now start.args.object state.i (inside in_loop)
-    (λ e. w.0.left (object ∙ e)) requested state.rows-1 state.count
+    (λ e. w.0.left (object ∙ e)) requested state.rows state.count
     (state.invariant requested request))))
     c.if-on-object.branch-raw
 

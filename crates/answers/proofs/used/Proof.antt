@@ -64,8 +64,8 @@ loop_again c =
     (count_own (record { packed = start.requires.0; inside = inside in_loop; words = w.entry_operation-operation.ensures }) start.args.object
     (sym object ∙ w.if-wide-object.true) at_loop.loop-i.used w.rows_needed-used.result at_loop.loop-i.invariant w.rows_needed-used.ensures))
     (λ w.
-    rw w.1
-    (count_past book start.args.object at_loop.loop-i.i (inside in_loop) (λ e. w.0.left (object ∙ e))
+    rw w.used-is
+    (count_past book start.args.object at_loop.loop-i.i (inside in_loop) (λ e. w.if-wide-object.false (object ∙ e))
     at_loop.loop-i.used at_loop.loop-i.invariant))
     c.if-wide-object.branch-raw
 

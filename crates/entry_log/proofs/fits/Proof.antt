@@ -34,7 +34,7 @@ loop_again c = (
       (c.entry_fits.ensures.0 c.if-not-entry_fits.false),
 )
 
-returns_2 : tie.Need-returns-then-not-entry_fits invariant_loop decreases_loop
+returns_2 : tie.Need-returns invariant_loop decreases_loop
 returns_2 c =
     let at_loop = c in
     let book = at_loop.args.book.now in

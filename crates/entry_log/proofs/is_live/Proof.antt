@@ -7,15 +7,15 @@ use Rattle.entry_log.proofs.is_live.Tie as tie
 
 returns : tie.Need-returns-then-wide-ge-TRANSACTIONS
 returns c =
-    let read = c in
-    let start = read in
+    let read = c.before.before in
+    let start = read.before.before in
     live_past start.args.book.now start.args.i _
-    (c.wide.ensures ∙ read.entry_transaction-transaction.ensures) c.if-wide-ge-TRANSACTIONS.true
+    (c.before.wide.ensures ∙ read.entry_transaction-transaction.ensures) c.if-wide-ge-TRANSACTIONS.true
 
-returns_2 : tie.Need-returns-then-wide-ge-TRANSACTIONS
+returns_2 : tie.Need-returns
 returns_2 c =
-    let read = c in
-    let start = read in
+    let read = c.before.before.before in
+    let start = read.before.before in
     live_tested start.args.book.now start.args.i start.args.live _ _
     read.entry_transaction-transaction.ensures start.requires.2 c.contains.ensures
 

@@ -32,8 +32,8 @@ mul_value c =
     let operation = c.args.operation in
     omega (arith, c.struct_known-2-1.given.1, masked_below 1_918 operation.number operation.value)
 
-returns_2 : tie.Need-returns-then-number-eq0
-returns_2 c = stored_tested _ _ _ c.then-number-eq0.false (at_most_11 c.before.before)
+returns_2 : tie.Need-returns
+returns_2 c = stored_tested _ _ _ c.if-number-eq0.false (at_most_11 c.before.before)
 
 pub is_stored_spec : {M : Type 1} → statement M
 is_stored_spec = tie.close (tie.spec returns shr_key mul_key (λ c. shr_key c.before) mul_value returns_2)

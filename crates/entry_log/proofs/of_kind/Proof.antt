@@ -7,20 +7,20 @@ use Rattle.entry_log.proofs.of_kind.Tie as tie
 
 returns : tie.Need-returns-then-object-ge-OBJECTS
 returns c =
-    let wide = c in
-    let start = wide in
+    let wide = c.before in
+    let start = wide.before.before.before in
     kind_past start.args.book.now start.args.i _
-    (wide.wide-object.ensures ∙ wide.entry_object.ensures) c.if-object-ge-OBJECTS.true
+    (wide.wide-object.ensures ∙ wide.before.entry_object.ensures) c.if-object-ge-OBJECTS.true
 
-returns_2 : tie.Need-returns-then-object-ge-OBJECTS
+returns_2 : tie.Need-returns
 returns_2 c =
-    let operation = c in
-    let wide = operation in
-    let start = wide in
+    let operation = c.before.before in
+    let wide = operation.before.before in
+    let start = wide.before.before.before in
     kind_tested start.args.book.now start.args.i start.requires.2
-    _ _ operation.entry_object.ensures.0 c.kind_of.ensures
-    _ _ (wide.wide-object.ensures ∙ wide.entry_object.ensures)
-    operation.if-object-ge-OBJECTS.false c.object_kind.ensures
+    _ _ operation.entry_operation-operation.ensures.0 c.kind_of.ensures
+    _ _ (wide.wide-object.ensures ∙ wide.before.entry_object.ensures)
+    operation.before.if-object-ge-OBJECTS.false c.before.object_kind.ensures
 
 pub of_kind_spec : {M : Type 1} → statement M
 of_kind_spec =

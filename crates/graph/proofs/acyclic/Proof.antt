@@ -13,16 +13,16 @@ decreases_loop edges finished left₀ left = left
 
 returns : tie.Need-returns-then-held-left invariant_loop decreases_loop
 returns c =
-    let near = c.before in
-    let loop = near.before in
+    let near = c in
+    let loop = near in
     peel_ended _ _ _ _ loop.loop-left.invariant near.near_predecessors-held.ensures c.if-held-left.true
-    loop.before.ranges.finished.fits
+    loop.ranges.finished.fits
 
 loop_less : tie.Need-loop-left-smaller invariant_loop decreases_loop
-loop_less c = peel_less _ _ _ _ c.before.before.loop-left.invariant c.before.near_predecessors-held.ensures c.if-held-left.false
+loop_less c = peel_less _ _ _ _ c.loop-left.invariant c.near_predecessors-held.ensures c.if-held-left.false
 
 loop_again : tie.Need-loop-left-preserved invariant_loop decreases_loop
-loop_again c = peel_turned _ _ _ _ c.before.before.loop-left.invariant c.before.near_predecessors-held.ensures
+loop_again c = peel_turned _ _ _ _ c.loop-left.invariant c.near_predecessors-held.ensures
 
 pub acyclic_spec : {M : Type 1} → statement M
 acyclic_spec =

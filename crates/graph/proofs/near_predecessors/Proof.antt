@@ -14,31 +14,31 @@ abbrev decreases_loop : tie.decreases-loop-left
 decreases_loop edges among set found₀ left₀ found left = left
 
 loop_less : tie.Need-loop-left-smaller invariant_loop decreases_loop
-loop_less c = rest_less _ _ _ c.without-left.ensures c.before.before.before.before.lowest-transaction.ensures.member
+loop_less c = rest_less _ _ _ c.without-left.ensures c.lowest-transaction.ensures.member
 
 loop_again : tie.Need-loop-left-preserved invariant_loop decreases_loop
 loop_again c =
-    let meet = c.before.before in
-    let next = meet.before.before in
-    let loop = next.before.before.loop-left in
-    let args = next.before.before.before.args in
-    let on = meet.before.dependencies.ensures in
+    let meet = c in
+    let next = meet in
+    let loop = next.loop-left in
+    let args = next.args in
+    let on = meet.dependencies.ensures in
     collect_turned _ _ _ _ loop.found _ _ loop.invariant next.lowest-transaction.ensures.member
     (⊎_elim
-    (λ w. rw w.3
+    (λ w. rw w.found-is
     (depends_on_one args.edges.now args.set next.lowest-transaction.result _ _ _ on meet.meet.ensures _ _
-    w.0.taken w.1.ensures w.2.ensures))
-    (λ w. rw w.1
+    w.if-meet-ne0.true w.single.ensures w.join-found.ensures))
+    (λ w. rw w.found-is
     (depends_on_none args.edges.now args.set next.lowest-transaction.result loop.found _ _ on meet.meet.ensures
-    w.0.left))
-    c.before.if-meet-ne0.branch-raw)
+    w.if-meet-ne0.false))
+    c.if-meet-ne0.branch-raw)
     c.without-left.ensures
 
 returns : tie.Need-returns invariant_loop decreases_loop
 returns c =
-    let args = c.before.before.args in
+    let args = c.args in
     near_predecessors args.edges.now args.set _ _
-    (collect_ended _ _ _ _ c.before.loop-left.invariant c.loop-left-test.false)
+    (collect_ended _ _ _ _ c.loop-left.invariant c.loop-left-test.false)
 
 pub near_predecessors_spec : {M : Type 1} → statement M
 near_predecessors_spec =

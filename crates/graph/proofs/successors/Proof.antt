@@ -18,19 +18,19 @@ at_loop c = c.before.before
 
 turn : (c : tie.After-near_successors-more invariant_loop decreases_loop)
     → let loop = at_loop c in
-    let args = loop.before.before.before.args in
+    let args = loop.args in
     let edges = args.edges.now in
-    Turn (EdgeIn edges) loop.before.without-others.result args.transaction loop.loop-found.found
+    Turn (EdgeIn edges) loop.without-others.result args.transaction loop.loop-found.found
     c.near_successors-more.result
 turn c =
     let loop = at_loop c in
-    gather_turned _ _ _ _ _ _ _ loop.loop-found.inv loop.before.before.single-own.ensures c.before.join.ensures
+    gather_turned _ _ _ _ _ _ _ loop.loop-found.invariant loop.single-own.ensures c.join.ensures
     c.near_successors-more.ensures
 
 returns : tie.Need-returns-then-more-found invariant_loop decreases_loop
 returns c =
     let near = c.before in
-    (turn near).ended c.if-more-found.true _ (at_loop near).before.without-others.ensures
+    (turn near).ended c.if-more-found.true _ (at_loop near).without-others.ensures
 
 loop_less : tie.Need-loop-found-smaller invariant_loop decreases_loop
 loop_less c = let near = c.before in omega (arith, (turn near).grows c.if-more-found.false, near.near_successors-more.type-inv)

@@ -283,7 +283,8 @@ calls_follow : (kinds : List ℕ) (h : History) (calls : List Call) (w : List �
     → InStep kinds (noted_all reduce_key (trace desk calls w) h) (book_after desk calls w)
 calls_follow kinds h [] w f refusedSetUps = f
 calls_follow kinds h (call ∷ calls) w f refusedSetUps =
-    calls_follow kinds _ calls (desk call w).book (call_follows kinds h call w f refusedSetUps.0) refusedSetUps.1
+    calls_follow kinds (noted reduce_key call (desk call w).outcome.reply (desk call w).outcome.list h) calls (desk call w).book
+    (call_follows kinds h call w f refusedSetUps.0) refusedSetUps.1
 
 pub history_follows : (w kinds : List ℕ) → (desk (set_up kinds) w).outcome.reply ≡ ok → (calls : List Call)
     → let start = (desk (set_up kinds) w).book in

@@ -14,34 +14,34 @@ use Rattle.objects.proofs.delete.Statement.{statement}
 use Rattle.objects.proofs.delete.Tie as tie
 
 abbrev start : tie.After-present → tie.Start
-start c = c.before.before.before.before.before
+start c = c.before.before.before
 
 abbrev part : tie.After-present → List ℕ
 part c = (start c).args.part.now
 
-here : (c : tie.After-present) → c.before.before.position.result ≡ position_of (start c).args.key (rows_in (part c))
-here c = c.before.before.position.ensures
+here : (c : tie.After-present) → c.position-at.result ≡ position_of (start c).args.key (rows_in (part c))
+here c = c.position-at.ensures
 
-found : (c : tie.Then1) → present (start c.before).args.key (rows_in (part c.before)) ≡ true
-found c = sym c.before.present.ensures ∙ c.if1.true
+found : (c : tie.Then-present) → present (start c.before).args.key (rows_in (part c.before)) ≡ true
+found c = sym c.present.ensures ∙ c.if-present.true
 
-close_at_requires : tie.Need-close-at-requires
+close_at_requires : tie.Need-close_at-requires
 close_at_requires c κs =
     let p = c.before.before in
     ((start p).requires, omega (arith, within (part p) (start p).args.key _ (here p) (found c.before)))
 
-returns : tie.Need-returns
+returns : tie.Need-returns-then-present
 returns c =
-    let closed = c.before.before in
-    let p = closed.before.before.before in
+    let closed = c in
+    let p = closed.before.before.before.before.before in
     closed.close_at.ensures
-    ∙ ap (with_rows (part p)) (removed_deleted (part p) (start p).args.key _ (here p) (found closed.before.before))
+    ∙ ap (with_rows (part p)) (removed_deleted (part p) (start p).args.key _ (here p) (found closed.before.before.before.before))
 
-returns_2 : tie.Need-returns-2
+returns_2 : tie.Need-returns-else-present
 returns_2 c =
     let p = c.before in
     kept (part p) _ (start p).requires
-    (absent (start p).args.key (rows_in (part p)) (sym p.present.ensures ∙ c.if1.false)).deletes
+    (absent (start p).args.key (rows_in (part p)) (sym p.present.ensures ∙ c.if-present.false)).deletes
 
 pub delete_spec : {M : Type 1} → statement M
 delete_spec =

@@ -14,29 +14,29 @@ use Rattle.objects.proofs.fold.Tie as tie
 abbrev part : List ℕ → ℕ → List ℕ
 part w s = take (length w - s) (drop s w)
 
-fold_part_requires : tie.Need-fold-part-requires
+fold_part_requires : tie.Need-fold_part-requires
 fold_part_requires c κs =
-    let started = c.before in
-    let start = started.before.before in
+    let started = c in
+    let start = started in
     let w = start.args.book.now in
     let operation = start.args.operation in
     subst (λ (s : ℕ). StartsPacked (part w s) × (length (next_named operation (rows_in (part w s))) ≤ 64))
-    (sym started.object-start.ensures)
+    (sym started.object_start-start.ensures)
     (part_ready w start.args.object start.requires.0 start.requires.1 operation start.requires.2)
 
 returns : tie.Need-returns
 returns c o named =
-    let folded = c.before.before in
-    let started = folded.before.before in
-    let start = started.before.before in
+    let folded = c in
+    let started = folded in
+    let start = started in
     let w = start.args.book.now in
     let operation = start.args.operation in
-    let here = started.object-start.ensures in
-    let after = folded.fold-part.new.0 in
+    let here = started.object_start-start.ensures in
+    let after = folded.fold_part.new.0 in
     ap (λ (s : ℕ). put_mid s (length w - s) w after) here
     ∙ book_folded w start.requires.0 start.args.object start.requires.1 operation o named after
     (subst (λ (s : ℕ). after ≡ with_rows (part w s) (next_named operation (rows_in (part w s)))) here
-    folded.fold-part.ensures)
+    folded.fold_part.ensures)
 
 pub fold_spec : {M : Type 1} → statement M
 fold_spec =

@@ -23,17 +23,17 @@ asked s = s.args.operation
 push_requires : tie.Need-push-requires
 push_requires c κs =
     let s = c.before.before.before in
-    (s.requires.0, push_room (part s) (asked s) c.before.match.keys1 s.requires.1)
+    (s.requires.0, push_room (part s) (asked s) c.in-1.is s.requires.1)
 
 insert_requires : tie.Need-insert-requires
 insert_requires c κs =
     let s = c.before.before.before in
-    (s.requires.0, rw (next_set_insert (asked s) (rows_in (part s)) c.before.match.keys3) at s.requires.1)
+    (s.requires.0, rw (next_set_insert (asked s) (rows_in (part s)) c.in-4.is) at s.requires.1)
 
-insert_requires_2 : tie.Need-insert-requires-2
+insert_requires_2 : tie.Need-insert-requires-in-7
 insert_requires_2 c κs =
     let s = c.before.before.before in
-    (s.requires.0, rw (next_table_insert (asked s) (rows_in (part s)) c.before.match.keys5) at s.requires.1)
+    (s.requires.0, rw (next_table_insert (asked s) (rows_in (part s)) c.in-7.is) at s.requires.1)
 
 -- The rows of an arm are the next rows.
 answered : (s : tie.Start) (after : List ℕ) (rs : List Row) → after ≡ with_rows (part s) rs
@@ -41,40 +41,40 @@ answered : (s : tie.Start) (after : List ℕ) (rs : List Row) → after ≡ with
     → after ≡ with_rows (part s) (next_named (asked s) (rows_in (part s)))
 answered s after rs e next = e ∙ ap (with_rows (part s)) (sym next)
 
-returns : tie.Need-returns
+returns : tie.Need-returns-in-1
 returns c =
-    let arm = c.before.before.before.before in
-    answered arm.before.before _ _ c.before.before.push.ensures (next_push _ _ arm.match.keys1)
+    let arm = c in
+    answered arm.before.before _ _ c.push.ensures (next_push _ _ arm.in-1.is)
 
-returns_2 : tie.Need-returns-2
+returns_2 : tie.Need-returns-in-2
 returns_2 c =
-    let arm = c.before.before.before.before in
-    answered arm.before.before _ _ c.before.before.pop.ensures (next_pop _ _ arm.match.keys2)
+    let arm = c in
+    answered arm.before.before _ _ c.pop.ensures (next_pop _ _ arm.in-2.is)
 
-returns_3 : tie.Need-returns-3
+returns_3 : tie.Need-returns-in-4
 returns_3 c =
-    let arm = c.before.before.before.before in
-    answered arm.before.before _ _ c.before.before.insert.ensures (next_set_insert _ _ arm.match.keys3)
+    let arm = c in
+    answered arm.before.before _ _ c.insert.ensures (next_set_insert _ _ arm.in-4.is)
 
-returns_4 : tie.Need-returns-4
+returns_4 : tie.Need-returns-in-5
 returns_4 c =
-    let arm = c.before.before.before.before in
-    answered arm.before.before _ _ c.before.before.delete.ensures (next_delete _ _ arm.match.keys4)
+    let arm = c in
+    answered arm.before.before _ _ c.delete.ensures (next_delete _ _ arm.in-5.is)
 
-returns_5 : tie.Need-returns-5
+returns_5 : tie.Need-returns-in-7
 returns_5 c =
-    let arm = c.before.before.before.before in
-    answered arm.before.before _ _ c.before.before.insert2.ensures (next_table_insert _ _ arm.match.keys5)
+    let arm = c in
+    answered arm.before.before _ _ c.insert-in-7.ensures (next_table_insert _ _ arm.in-7.is)
 
-returns_6 : tie.Need-returns-6
+returns_6 : tie.Need-returns-in-11
 returns_6 c =
-    let arm = c.before.before.before.before in
-    answered arm.before.before _ _ c.before.before.modify.ensures (next_modify _ _ arm.match.keys6)
+    let arm = c in
+    answered arm.before.before _ _ c.modify.ensures (next_modify _ _ arm.in-11.is)
 
-returns_7 : tie.Need-returns-7
+returns_7 : tie.Need-returns-in_default
 returns_7 c =
     let s = c.before.before in
-    let rest = c.match.rest in
+    let rest = c.in_default.in_default-own.rest in
     let n58 = rest.0.0.1 in
     kept (part s) _ s.requires.0
     (next_same (asked s) (rows_in (part s)) rest.0.0.0.0.0.1 rest.0.0.0.0.1 rest.0.0.0.1

@@ -15,18 +15,18 @@ use Rattle.objects.proofs.modify.Statement.{statement}
 use Rattle.objects.proofs.modify.Tie as tie
 
 abbrev start : tie.After-present → tie.Start
-start c = c.before.before.before.before.before
+start c = c.before.before.before
 
 abbrev part : tie.After-present → List ℕ
 part c = (start c).args.part.now
 
-here : (c : tie.After-present) → c.before.before.position.result ≡ position_of (start c).args.key (rows_in (part c))
-here c = c.before.before.position.ensures
+here : (c : tie.After-present) → c.position-at.result ≡ position_of (start c).args.key (rows_in (part c))
+here c = c.position-at.ensures
 
-found : (c : tie.Then1) → present (start c.before).args.key (rows_in (part c.before)) ≡ true
-found c = sym c.before.present.ensures ∙ c.if1.true
+found : (c : tie.Then-present) → present (start c.before).args.key (rows_in (part c.before)) ≡ true
+found c = sym c.present.ensures ∙ c.if-present.true
 
-below : (c : tie.Then1) → c.before.before.before.position.result < word (part c.before) 1
+below : (c : tie.Then-present) → c.position-at.result < word (part c.before) 1
 below c = let p = c.before in within (part p) (start p).args.key _ (here p) (found c)
 
 mul_part : tie.Need-overflow_mul-part
@@ -35,25 +35,25 @@ mul_part c = omega (arith, below c, (start c.before).requires.rows)
 add_part : tie.Need-overflow_add-part
 add_part c = omega (arith, below c, (start c.before).requires.rows)
 
-add_part_2 : tie.Need-overflow_add-part-2
+add_part_2 : tie.Need-overflow_add-part-then-present
 add_part_2 c = omega (arith, below c, (start c.before).requires.rows)
 
-mul_part_2 : tie.Need-overflow_mul-part-2
+mul_part_2 : tie.Need-offset_bounds-part-at
 mul_part_2 c = omega (arith, below c, (start c.before).requires.rows)
 
-slice_write_part : tie.Need-slice-write-part
+slice_write_part : tie.Need-bounds-part-at
 slice_write_part c = omega (arith, below c, (start c.before).requires.rows, (start c.before).requires.long)
 
-returns : tie.Need-returns
+returns : tie.Need-returns-then-present
 returns c =
     let p = c.before in
     stored_modified (part p) (start p).args.key _ (here p) (start p).requires (start p).args.value (found c)
 
-returns_2 : tie.Need-returns-2
+returns_2 : tie.Need-returns-else-present
 returns_2 c =
     let p = c.before in
     kept (part p) _ (start p).requires ((absent (start p).args.key (rows_in (part p))
-    (sym p.present.ensures ∙ c.if1.false)).modifies (start p).args.value)
+    (sym p.present.ensures ∙ c.if-present.false)).modifies (start p).args.value)
 
 pub modify_spec : {M : Type 1} → statement M
 modify_spec =

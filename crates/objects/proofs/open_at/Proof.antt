@@ -11,51 +11,51 @@ use Rattle.objects.specs.Laws.Writing.{Opening, opening_start, opening_next, ope
 use Rattle.objects.proofs.open_at.Statement.{statement}
 use Rattle.objects.proofs.open_at.Tie as tie
 
-abbrev invariant_loop : tie.invariant-loop
+abbrev invariant_loop : tie.invariant-loop-i
 invariant_loop part₀ at key value count carried-key₀ carried-value₀ i₀ part carried-key carried-value i =
     (i ≤ count) × (length part ≡ length part₀)
     × Opening part₀ (put_at at (row key value) (rows_in part₀)) part i (row carried-key carried-value)
 
-abbrev decreases_loop : tie.decreases-loop
+abbrev decreases_loop : tie.decreases-loop-i
 decreases_loop part₀ at key value count carried-key₀ carried-value₀ i₀ part carried-key carried-value i = count - i
 
-loop_holds : tie.Need-loop-init invariant_loop decreases_loop
+loop_holds : tie.Need-loop-i-init invariant_loop decreases_loop
 loop_holds c =
     let start = c.before.before.before in (
-      omega (arith, start.requires.1, c.wide.ensures),
+      omega (arith, start.requires.1, c.wide-count.ensures),
       refl,
       opening_start start.args.part.now start.args.at _ start.requires.0,
     )
 
-slice_write_part_2 : tie.Need-slice-write-part-2 invariant_loop decreases_loop
+slice_write_part_2 : tie.Need-bounds-part-place-in-loop-i-3 invariant_loop decreases_loop
 slice_write_part_2 c = simp length-set (omega arith)
 
-loop_again : tie.Need-loop-preserved invariant_loop decreases_loop
+loop_again : tie.Need-loop-i-preserved invariant_loop decreases_loop
 loop_again c =
     let at_loop = c.before.before.before in
     let start = at_loop.before.before.before.before in (
       search rules,
-      simp length-set at_loop.loop.invariant.1,
-      opening_next start.args.part.now _ at_loop.loop.part at_loop.loop.i _ _ at_loop.loop.invariant.2
-          (omega (arith, c.before.before.loop-test.true, at_loop.before.wide.ensures)),
+      simp length-set at_loop.loop-i.invariant.1,
+      opening_next start.args.part.now _ at_loop.loop-i.part at_loop.loop-i.i _ _ at_loop.loop-i.invariant.2
+          (omega (arith, c.before.before.loop-i-test.true, at_loop.before.wide-count.ensures)),
     )
 
-slice_write_part_4 : tie.Need-slice-write-part-4 invariant_loop decreases_loop
+slice_write_part_4 : tie.Need-bounds-part-end-2 invariant_loop decreases_loop
 slice_write_part_4 c = simp length-set (omega arith)
 
-slice_write_part_5 : tie.Need-slice-write-part-5 invariant_loop decreases_loop
+slice_write_part_5 : tie.Need-bounds-part-1-2 invariant_loop decreases_loop
 slice_write_part_5 c = simp length-set (omega arith)
 
-same_length : tie.Need-same-length invariant_loop decreases_loop
-same_length c = simp length-set c.before.loop.invariant.1
+same_length : tie.Need-shape_of-part invariant_loop decreases_loop
+same_length c = simp length-set c.before.loop-i.invariant.1
 
 returns : tie.Need-returns invariant_loop decreases_loop
 returns c =
     let at_loop = c.before in
     let start = at_loop.before.before.before.before in
-    let size = at_loop.before.wide.ensures in
-    opening_end start.args.part.now _ at_loop.loop.part at_loop.loop.i _ _ at_loop.loop.invariant.2 _ size
-    (omega (arith, at_loop.loop.invariant.0)) (omega (arith, start.requires.2))
+    let size = at_loop.before.wide-count.ensures in
+    opening_end start.args.part.now _ at_loop.loop-i.part at_loop.loop-i.i _ _ at_loop.loop-i.invariant.2 _ size
+    (omega (arith, at_loop.loop-i.invariant.0)) (omega (arith, start.requires.2))
 
 pub open_at_spec : {M : Type 1} → statement M
 open_at_spec =

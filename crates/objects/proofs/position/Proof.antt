@@ -13,47 +13,47 @@ use Rattle.objects.specs.Laws.Writing.{pairs_count, pair_key}
 use Rattle.objects.proofs.position.Statement.{statement}
 use Rattle.objects.proofs.position.Tie as tie
 
-abbrev invariant_loop : tie.invariant-loop
+abbrev invariant_loop : tie.invariant-loop-at
 invariant_loop part key count at₀ at =
     (at ≤ count) × (at + position_of key (map row_of (drop at (pairs_in part))) ≡ position_of key (rows_in part))
 
-abbrev decreases_loop : tie.decreases-loop
+abbrev decreases_loop : tie.decreases-loop-at
 decreases_loop part key count at₀ at = count - at
 
-abbrev part : tie.At-loop invariant_loop decreases_loop → List ℕ
+abbrev part : tie.At-loop-at invariant_loop decreases_loop → List ℕ
 part c = c.before.before.before.before.args.part.now
 
-abbrev key : tie.At-loop invariant_loop decreases_loop → ℕ
+abbrev key : tie.At-loop-at invariant_loop decreases_loop → ℕ
 key c = c.before.before.before.before.args.key
 
-within : (c : tie.In-loop invariant_loop decreases_loop) → c.before.loop.at < word (part c.before) 1
-within c = omega (arith, c.loop-test.true, c.before.before.wide.ensures)
+within : (c : tie.In-loop-at invariant_loop decreases_loop) → c.before.loop-at.at < word (part c.before) 1
+within c = omega (arith, c.loop-at-test.true, c.before.before.wide-count.ensures)
 
-returns : tie.Need-returns invariant_loop decreases_loop
+returns : tie.Need-returns-then-part-at invariant_loop decreases_loop
 returns c =
     let at_loop = c.before.before.before in
     let l = within c.before.before in
-    sym (scan_found (key at_loop) (pairs_in (part at_loop)) at_loop.loop.at
+    sym (scan_found (key at_loop) (pairs_in (part at_loop)) at_loop.loop-at.at
     (omega (arith, pairs_count (part at_loop)))
-    (omega (arith, pair_key (part at_loop) at_loop.loop.at l)))
-    ∙ at_loop.loop.invariant.1
+    (omega (arith, pair_key (part at_loop) at_loop.loop-at.at l)))
+    ∙ at_loop.loop-at.invariant.1
 
-loop_again : tie.Need-loop-preserved invariant_loop decreases_loop
+loop_again : tie.Need-loop-at-preserved invariant_loop decreases_loop
 loop_again c =
     let at_loop = c.before.before.before in
     let l = within c.before.before in (
       search rules,
-      scan_on (key at_loop) (pairs_in (part at_loop)) at_loop.loop.at (omega (arith, pairs_count (part at_loop)))
-          (omega (arith, pair_key (part at_loop) at_loop.loop.at l))
-          ∙ at_loop.loop.invariant.1,
+      scan_on (key at_loop) (pairs_in (part at_loop)) at_loop.loop-at.at (omega (arith, pairs_count (part at_loop)))
+          (omega (arith, pair_key (part at_loop) at_loop.loop-at.at l))
+          ∙ at_loop.loop-at.invariant.1,
     )
 
-returns_2 : tie.Need-returns-2 invariant_loop decreases_loop
+returns_2 : tie.Need-returns invariant_loop decreases_loop
 returns_2 c =
     let at_loop = c.before in
-    sym (scan_past (key at_loop) (pairs_in (part at_loop)) at_loop.loop.at
-    (omega (arith, pairs_count (part at_loop), c.loop-test.false, at_loop.before.wide.ensures)))
-    ∙ at_loop.loop.invariant.1
+    sym (scan_past (key at_loop) (pairs_in (part at_loop)) at_loop.loop-at.at
+    (omega (arith, pairs_count (part at_loop), c.loop-at-test.false, at_loop.before.wide-count.ensures)))
+    ∙ at_loop.loop-at.invariant.1
 
 pub position_spec : {M : Type 1} → statement M
 position_spec =

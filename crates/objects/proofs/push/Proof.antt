@@ -11,7 +11,7 @@ returns c =
     let opened = c.before.before in
     let wide = opened.before.before in
     let part = wide.before.before.before.args.part.now in
-    opened.open_at.ensures ∙ ap (with_rows part) (put_past part _ wide.wide.ensures _)
+    opened.open_at.ensures ∙ ap (with_rows part) (put_past part _ wide.wide-count.ensures _)
 
 pub push_spec : {M : Type 1} → statement M
 push_spec =

@@ -10,10 +10,10 @@ returns c =
     let args = c.args in
     lowered_down args.out args.status c.if-status-ge-FIRST_RANK.true c.if-status-out.true
 
-returns_2 : tie.Need-returns-then-status-out
+returns_2 : tie.Need-returns
 returns_2 c =
     let args = c.args in
-    ⊎_elim (λ w. lowered_kept args.out args.status w.0.taken w.1.left)
+    ⊎_elim (λ w. lowered_kept args.out args.status w.if-status-ge-FIRST_RANK.true w.if-status-out.false)
     (λ w. unranked_kept args.out args.status w.left) c.else-status-ge-FIRST_RANK.branch-raw
 
 pub lowered_spec : {M : Type 1} → statement M

@@ -6,13 +6,13 @@ use Rattle.statuses.proofs.marked.Tie as tie
 
 returns : tie.Need-returns-then-test
 returns c =
-    let args = c.args in
-    marked_with args.set args.transaction args.test c.join.result c.if-test.true
-    (with_one args.set args.transaction c.single.result c.join.result
-    c.single.ensures c.join.ensures)
+    let args = c.before.before.before.args in
+    marked_with args.set args.transaction args.test c.join.result c.before.before.if-test.true
+    (with_one args.set args.transaction c.before.single.result c.join.result
+    c.before.single.ensures c.join.ensures)
 
-returns_2 : tie.Need-returns-then-test
-returns_2 c = marked_not c.args.set c.args.transaction c.args.test c.if-test.false
+returns_2 : tie.Need-returns
+returns_2 c = marked_not c.before.args.set c.before.args.transaction c.before.args.test c.if-test.false
 
 pub marked_spec : {M : Type 1} → statement M
 marked_spec = tie.close (tie.spec (λ c κs. search rules) (λ c κs. search rules) returns returns_2)

@@ -32,8 +32,8 @@ loop_again c =
       omega arith,
       ⊎_elim
           (λ w. rw (w.live-is, w.finished-is, w.ranks-is)
-          (pass_live book _ _ _ _ gathered _ _ _ _ below word w.if-status-ne-ABSENT.taken
-          (with_one _ _ _ _ w.1.ensures w.2.ensures) w.3.ensures w.4.ensures))
+          (pass_live book _ _ _ _ gathered _ _ _ _ below word w.if-status-ne-ABSENT.true
+          (with_one _ _ _ _ w.single.ensures w.join-live.ensures) w.3.ensures w.4.ensures))
           (λ w. rw (w.1, w.2, w.3)
           (pass_absent book _ _ _ _ gathered _ below word w.0.left))
           c.if-status-ne-ABSENT.branch-raw,
