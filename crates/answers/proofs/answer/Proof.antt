@@ -137,9 +137,9 @@ loop_again c =
     (sym object ∙ w.if-on-object.true) requested state.rows state.count (state.invariant requested request)
     start.args.operation request w.recoverable.result w.recoverable.ensures (ap not w.if-not-recoverable.false)))
     (λ w.
-    rw (w.1, w.2)
+    rw (w.rows-is, w.count-is)
     (carry_past start.args.book.now start.args.object state.i (inside in_loop)
-    (λ e. w.0.left (object ∙ e)) requested state.rows state.count
+    (λ e. w.if-on-object.false (object ∙ e)) requested state.rows state.count
     (state.invariant requested request))))
     c.if-on-object.branch-raw
 

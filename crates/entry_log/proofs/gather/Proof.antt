@@ -41,7 +41,7 @@ returns c =
     let at_loop = c in
     let args = at_loop.args in
     let e : at_loop.loop-i.i ≡ word args.book.now 0 = omega (arith, at_loop.entry_count-count.ensures) in
-    subst (λ i. Compacted args.book.now args.transaction i at_loop.loop-i.book at_loop.loop-i.auto)
+    subst (λ i. Compacted args.book.now args.transaction i at_loop.loop-i.book at_loop.loop-i.kept)
     e at_loop.loop-i.invariant.1
 
 pub gather_spec : {M : Type 1} → statement M

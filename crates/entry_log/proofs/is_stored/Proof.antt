@@ -14,10 +14,10 @@ returns c =
     let operation = c.args.operation in
     no refl
     (out_of_range operation.number operation.key operation.value
-    (⊎_elim (λ w. inl w.if-number-eq0.true) (λ w. inr (ltb-true 11 _ w.if-number-gt-MODIFY.true)) c.then-number-eq0.branch-raw))
+    (⊎_elim (λ w. inl w.if-number-eq0.true) (λ w. inr w.if-number-gt-MODIFY.true) c.then-number-eq0.branch-raw))
 
 at_most_11 : (c : tie.Else-number-gt-MODIFY) → c.args.operation.number ≤ 11
-at_most_11 c = ltb-false 11 _ c.if-number-gt-MODIFY.false
+at_most_11 c = c.if-number-gt-MODIFY.false
 
 shr_key : tie.Need-overflow_shr-key
 shr_key c = omega (arith, at_most_11 c)

@@ -33,7 +33,7 @@ returns c =
     (turn near).ended c.if-more-found.true _ (at_loop near).without-others.ensures
 
 loop_less : tie.Need-loop-found-smaller invariant_loop decreases_loop
-loop_less c = let near = c.before in omega (arith, (turn near).grows c.if-more-found.false, near.near_successors-more.type-inv)
+loop_less c = let near = c.before in omega (arith, (turn near).grows c.if-more-found.false, near.near_successors-more.type_inv)
 
 loop_again : tie.Need-loop-found-preserved invariant_loop decreases_loop
 loop_again c = (turn c.before).again

@@ -32,7 +32,7 @@ returns c o named =
     let w = start.args.book.now in
     let operation = start.args.operation in
     let here = started.object_start-start.ensures in
-    let after = folded.fold_part.new.0 in
+    let after = folded.fold_part.new.part in
     ap (λ (s : ℕ). put_mid s (length w - s) w after) here
     ∙ book_folded w start.requires.0 start.args.object start.requires.1 operation o named after
     (subst (λ (s : ℕ). after ≡ with_rows (part w s) (next_named operation (rows_in (part w s)))) here

@@ -28,7 +28,7 @@ is_formed_requires c κs =
 returns : tie.Need-returns-then-not-is_formed invariant_loop decreases_loop
 returns c =
     let start = c in
-    Iff.trans (no refl (λ all. denied c.is_formed.ensures (not-true _ c.if-not-is_formed.true)
+    Iff.trans (no refl (λ all. denied c.is_formed.ensures c.if-not-is_formed.true
     (all _ c.loop-object-test.true)))
     (all_formed start.args.book.now)
 
@@ -36,7 +36,7 @@ loop_again : tie.Need-loop-object-preserved invariant_loop decreases_loop
 loop_again c = (
   search rules,
   below_more _ _ c.loop-object.invariant.1
-      (c.is_formed.ensures.0 (not-false _ c.if-not-is_formed.false)),
+      (c.is_formed.ensures.0 c.if-not-is_formed.false),
 )
 
 returns_2 : tie.Need-returns invariant_loop decreases_loop

@@ -23,7 +23,7 @@ here : (c : tie.After-present) → c.position-at.result ≡ position_of (start c
 here c = c.position-at.ensures
 
 absent : (c : tie.Then-not-present) → present (start c.before).args.key (rows_in (part c.before)) ≡ false
-absent c = sym c.present.ensures ∙ not-true _ c.if-not-present.true
+absent c = sym c.present.ensures ∙ c.if-not-present.true
 
 open_at_requires : tie.Need-open_at-requires
 open_at_requires c κs =
@@ -44,7 +44,7 @@ returns_2 : tie.Need-returns-else-not-present
 returns_2 c =
     let p = c.before in
     kept (part p) _ (start p).requires.0 ((there (start p).args.key (rows_in (part p))
-    (sym p.present.ensures ∙ not-false _ c.if-not-present.false)).inserts (start p).args.value)
+    (sym p.present.ensures ∙ c.if-not-present.false)).inserts (start p).args.value)
 
 pub insert_spec : {M : Type 1} → statement M
 insert_spec =

@@ -1,7 +1,7 @@
 -- `objects::is_keyed`: whether a key that the loop has passed is not below the next.
 use Prim.Native.Nat.{ℕ, suc, ◌+◌, ◌-◌, ◌*◌, ◌≤◌}
 use mathlib.Core.Path.{◌≡◌, refl, sym, ap, subst}
-use mathlib.Core.Bool.{true, ◌||◌}
+use mathlib.Core.Bool.{not, true, ◌||◌}
 use mathlib.Core.Logic.{◌↔◌}
 use native.Mathlib.Omega.{arith}
 use borrow.Author.Rules.{rules}
@@ -70,15 +70,15 @@ returns_2 c =
     (started at_loop)
     (keyed_last (rows at_loop) _ (last at_loop) at_loop.loop-i.i (size at_loop)
     (omega (arith, at_loop.loop-i.invariant.0)) _ at_loop.loop-i.invariant.1
-    (not-true _ c.if-not-falling.true))
+    c.if-not-falling.true)
 
 returns_3 : tie.Need-returns-else-not-falling invariant_loop decreases_loop
 returns_3 c =
     let at_loop = c.before.before in
-    no c.if-not-falling.false
+    no (ap not c.if-not-falling.false)
     (keyed_no (rows at_loop) _ (last at_loop) at_loop.loop-i.i (size at_loop)
     (omega (arith, at_loop.loop-i.invariant.0)) _ at_loop.loop-i.invariant.1
-    (not-false _ c.if-not-falling.false))
+    c.if-not-falling.false)
 
 pub is_keyed_spec : {M : Type 1} → statement M
 is_keyed_spec =

@@ -17,12 +17,12 @@ use Rattle.objects.proofs.is_packed.Tie as tie
 
 ranged : (c : tie.Else-not-is_in_range)
     → InRange c.object_kind-kind.result c.row_count-count.result
-ranged c = c.is_in_range.ensures.0 (not-false _ c.if-not-is_in_range.false)
+ranged c = c.is_in_range.ensures.0 c.if-not-is_in_range.false
 
 returns : tie.Need-returns-then-not-is_in_range
 returns c =
     let start = c in
-    no refl (λ p. denied c.is_in_range.ensures (not-true _ c.if-not-is_in_range.true)
+    no refl (λ p. denied c.is_in_range.ensures c.if-not-is_in_range.true
     (packed_range start.args.book.now start.args.object _ _
     c.object_kind-kind.ensures c.row_count-count.ensures p))
 
@@ -38,7 +38,7 @@ mul_is_zero c = omega (arith, (ranged c.before).rows, c.object_start-start.ensur
 sub_is_zero : tie.Need-slice_bounds-is_zero-count
 sub_is_zero c = omega (arith, (ranged c.before).rows, c.object_start-start.ensures)
 
-part_is_zero_start : tie.Need-slice-bounds-is-zero-start
+part_is_zero_start : tie.Need-slice_bounds-is_zero-start
 part_is_zero_start c = omega (arith, (ranged c.before).rows, c.object_start-start.ensures)
 
 returns_2 : tie.Need-returns

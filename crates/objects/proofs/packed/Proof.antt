@@ -21,14 +21,14 @@ loop_holds c = (search rules, below_none _)
 
 returns : tie.Need-returns-then-not-is_packed invariant_loop decreases_loop
 returns c =
-    no refl (λ all. denied c.is_packed.ensures (not-true _ c.if-not-is_packed.true)
+    no refl (λ all. denied c.is_packed.ensures c.if-not-is_packed.true
     (all _ c.loop-object-test.true))
 
 loop_again : tie.Need-loop-object-preserved invariant_loop decreases_loop
 loop_again c = (
   search rules,
   below_more _ _ c.loop-object.invariant.1
-      (c.is_packed.ensures.0 (not-false _ c.if-not-is_packed.false)),
+      (c.is_packed.ensures.0 c.if-not-is_packed.false),
 )
 
 returns_2 : tie.Need-returns invariant_loop decreases_loop

@@ -7,8 +7,8 @@ use Rattle.representatives.proofs.chain.Tie as tie
 
 returns : tie.Need-returns
 returns c =
-    let start = c.before.before.before in
-    let slot = c.before.slot.ensures in
+    let start = c in
+    let slot = c.slot-at.ensures in
     chained_more _ _ start.args.i _ _ start.requires.3 _ slot.0 slot.1
     (omega (arith, start.requires.0.0.entries, start.requires.0.1)) start.requires.1 start.requires.2
 

@@ -8,51 +8,51 @@ use Rattle.representatives.specs.Laws.Chains.{Way, way_start, way_back, way_down
 use Rattle.representatives.proofs.find.Statement.{statement}
 use Rattle.representatives.proofs.find.Tie as tie
 
-abbrev invariant_loop : tie.invariant-loop
+abbrev invariant_loop : tie.invariant-loop-at
 invariant_loop book i valued heads links at₀ at = Way valued book i at
 
-abbrev decreases_loop : tie.decreases-loop
+abbrev decreases_loop : tie.decreases-loop-at
 decreases_loop book i valued heads links at₀ at = at
 
-loop_holds : tie.Need-loop-init invariant_loop decreases_loop
+loop_holds : tie.Need-loop-at-init invariant_loop decreases_loop
 loop_holds c =
-    let start = c.before.before.before in
-    way_start _ _ _ _ _ start.requires.2 start.requires.1 _ c.before.slot.ensures.0 c.before.slot.ensures.1
+    let start = c in
+    way_start _ _ _ _ _ start.requires.2 start.requires.1 _ c.slot.ensures.0 c.slot.ensures.1
 
-within : (c : tie.In-loop invariant_loop decreases_loop) → c.before.loop.at < 257
+within : (c : tie.In-loop-at invariant_loop decreases_loop) → c.loop-at.at < 257
 within c =
-    let start = c.before.before.before.before.before in
-    omega (arith, c.before.loop.invariant.within, start.requires.0.0.entries, start.requires.0.1)
+    let start = c in
+    omega (arith, c.loop-at.invariant.within, start.requires.0.0.entries, start.requires.0.1)
 
 alike_requires : tie.Need-alike-requires invariant_loop decreases_loop
 alike_requires c κs =
-    let start = c.before.before.before.before.before in
-    (start.requires.0, (start.requires.0.0, omega (arith, c.before.loop.invariant.within, start.requires.0.1)))
+    let start = c in
+    (start.requires.0, (start.requires.0.0, omega (arith, c.loop-at.invariant.within, start.requires.0.1)))
 
-returns : tie.Need-returns invariant_loop decreases_loop
+returns : tie.Need-returns-then-alike invariant_loop decreases_loop
 returns c =
-    let at_loop = c.before.before.before in
-    let args = at_loop.before.before.before.before.args in
-    way_found args.valued args.book.now args.i _ at_loop.loop.invariant c.before.before.loop-test.true
-    (c.before.alike.ensures.0 c.if1.true)
+    let at_loop = c in
+    let args = at_loop.args in
+    way_found args.valued args.book.now args.i _ at_loop.loop-at.invariant c.loop-at-test.true
+    (c.alike.ensures.0 c.if-alike.true)
 
-loop_less : tie.Need-loop-smaller invariant_loop decreases_loop
+loop_less : tie.Need-loop-at-smaller invariant_loop decreases_loop
 loop_less c =
-    let inside = c.before.before.before in
-    let start = inside.before.before.before.before.before in
-    way_down _ _ _ _ _ start.requires.2 _ inside.before.loop.invariant inside.loop-test.true
+    let inside = c in
+    let start = inside in
+    way_down _ _ _ _ _ start.requires.2 _ inside.loop-at.invariant inside.loop-at-test.true
 
-loop_again : tie.Need-loop-preserved invariant_loop decreases_loop
+loop_again : tie.Need-loop-at-preserved invariant_loop decreases_loop
 loop_again c =
-    let inside = c.before.before.before in
-    let start = inside.before.before.before.before.before in
-    way_back _ _ _ _ _ start.requires.2 _ inside.before.loop.invariant inside.loop-test.true start.requires.1
-    (λ a. true≢false (sym (c.before.before.alike.ensures.1 a) ∙ c.before.if1.false))
+    let inside = c in
+    let start = inside in
+    way_back _ _ _ _ _ start.requires.2 _ inside.loop-at.invariant inside.loop-at-test.true start.requires.1
+    (λ a. true≢false (sym (c.alike.ensures.1 a) ∙ c.if-alike.false))
 
-returns_2 : tie.Need-returns-2 invariant_loop decreases_loop
+returns_2 : tie.Need-returns invariant_loop decreases_loop
 returns_2 c =
-    let args = c.before.before.before.before.before.args in
-    way_end args.valued args.book.now args.i _ c.before.loop.invariant c.loop-test.false
+    let args = c.args in
+    way_end args.valued args.book.now args.i _ c.loop-at.invariant c.loop-at-test.false
 
 pub find_spec : {M : Type 1} → statement M
 find_spec =
@@ -65,7 +65,7 @@ find_spec =
     (λ c. omega (arith, c.slot.ensures.1))
     loop_holds
     (λ c. omega (arith, within c))
-    (λ c. omega (arith, c.loop-test.true))
+    (λ c. omega (arith, c.loop-at-test.true))
     alike_requires
     returns
     (λ c. omega (arith, within c.before.before))

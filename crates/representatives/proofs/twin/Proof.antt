@@ -6,22 +6,22 @@ use Rattle.representatives.specs.Laws.Chains.{chained_same}
 use Rattle.representatives.proofs.twin.Statement.{statement}
 use Rattle.representatives.proofs.twin.Tie as tie
 
-returns : tie.Need-returns
+returns : tie.Need-returns-then-operation-ne-MODIFY
 returns c =
-    let start = c.before.before.before.before in
-    let number = c.before.before.entry-operation.ensures.0 in (
-      record { within = omega arith; represents = λ e. absurd (c.if1.true (number ∙ e)) },
-      chained_same _ _ _ _ _ start.requires.1 (λ e. absurd (c.if1.true (number ∙ e))),
+    let start = c in
+    let number = c.entry_operation-operation.ensures.0 in (
+      record { within = omega arith; represents = λ e. absurd (c.if-operation-ne-MODIFY.true (number ∙ e)) },
+      chained_same _ _ _ _ _ start.requires.1 (λ e. absurd (c.if-operation-ne-MODIFY.true (number ∙ e))),
     )
 
 represent_requires : tie.Need-represent-requires
 represent_requires c κs =
-    let test = c.before.before in
-    let start = test.before.before.before.before in
-    let number = test.before.before.entry-operation.ensures.0 in
-    (start.requires.0, sym number ∙ test.if1.false, start.requires.1)
+    let test = c in
+    let start = test in
+    let number = test.entry_operation-operation.ensures.0 in
+    (start.requires.0, sym number ∙ test.if-operation-ne-MODIFY.false, start.requires.1)
 
-returns_2 : tie.Need-returns-2
+returns_2 : tie.Need-returns
 returns_2 c =
     let found = c.represent.ensures in
     (record { within = found.0.within; represents = λ e. found.0 }, found.1)

@@ -33,9 +33,9 @@ loop_again c =
       ⊎_elim
           (λ w. rw (w.live-is, w.finished-is, w.ranks-is)
           (pass_live book _ _ _ _ gathered _ _ _ _ below word w.if-status-ne-ABSENT.true
-          (with_one _ _ _ _ w.single.ensures w.join-live.ensures) w.3.ensures w.4.ensures))
-          (λ w. rw (w.1, w.2, w.3)
-          (pass_absent book _ _ _ _ gathered _ below word w.0.left))
+          (with_one _ _ _ _ w.single.ensures w.join-live.ensures) w.marked-finished.ensures w.noted-ranks.ensures))
+          (λ w. rw (w.live-is, w.finished-is, w.ranks-is)
+          (pass_absent book _ _ _ _ gathered _ below word w.if-status-ne-ABSENT.false))
           c.if-status-ne-ABSENT.branch-raw,
     )
 
