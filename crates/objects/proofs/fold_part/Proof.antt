@@ -44,32 +44,32 @@ answered s after rs e next = e ∙ ap (with_rows (part s)) (sym next)
 returns : tie.Need-returns-in-1
 returns c =
     let arm = c in
-    answered arm.before.before _ _ c.push.ensures (next_push _ _ arm.in-1.is)
+    answered arm.before.before.before.before.before.before _ _ c.push.ensures (next_push _ _ arm.in-1.is)
 
 returns_2 : tie.Need-returns-in-2
 returns_2 c =
     let arm = c in
-    answered arm.before.before _ _ c.pop.ensures (next_pop _ _ arm.in-2.is)
+    answered arm.before.before.before.before.before.before _ _ c.pop.ensures (next_pop _ _ arm.in-2.is)
 
 returns_3 : tie.Need-returns-in-4
 returns_3 c =
     let arm = c in
-    answered arm.before.before _ _ c.insert.ensures (next_set_insert _ _ arm.in-4.is)
+    answered arm.before.before.before.before.before.before _ _ c.insert.ensures (next_set_insert _ _ arm.in-4.is)
 
 returns_4 : tie.Need-returns-in-5
 returns_4 c =
     let arm = c in
-    answered arm.before.before _ _ c.delete.ensures (next_delete _ _ arm.in-5.is)
+    answered arm.before.before.before.before.before.before _ _ c.delete.ensures (next_delete _ _ arm.in-5.is)
 
 returns_5 : tie.Need-returns-in-7
 returns_5 c =
     let arm = c in
-    answered arm.before.before _ _ c.insert-in-7.ensures (next_table_insert _ _ arm.in-7.is)
+    answered arm.before.before.before.before.before.before _ _ c.insert-in-7.ensures (next_table_insert _ _ arm.in-7.is)
 
 returns_6 : tie.Need-returns-in-11
 returns_6 c =
     let arm = c in
-    answered arm.before.before _ _ c.modify.ensures (next_modify _ _ arm.in-11.is)
+    answered arm.before.before.before.before.before.before _ _ c.modify.ensures (next_modify _ _ arm.in-11.is)
 
 returns_7 : tie.Need-returns-in_default
 returns_7 c =
