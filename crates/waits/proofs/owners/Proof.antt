@@ -14,8 +14,8 @@ use Rattle.store.specs.Layout.{word, operation_at, object_start}
 use Rattle.pairs.specs.Laws.{Within}
 use Rattle.entry_log.specs.Log.{StoredAs}
 use Rattle.waits.specs.Laws.Rules.{Pair, within, Ruled, always_yes, same_keys, other_keys, otherwise_no}
-use Rattle.waits.specs.Laws.Scan.{Scanning, scan_start, scan_end, AtEntry, pass_own, pass_other, pass_recoverable}
-use Rattle.waits.specs.Laws.Scan.{owner_below, add_owner, paired}
+use Rattle.waits.specs.Laws.scan.{Scanning, scan_start, scan_end, AtEntry, pass_own, pass_other, pass_recoverable}
+use Rattle.waits.specs.Laws.scan.{owner_below, add_owner, paired}
 use Rattle.waits.proofs.owners.Statement.{statement}
 use Rattle.waits.proofs.owners.Tie as tie
 
@@ -29,66 +29,66 @@ decreases_scan book transaction object requested kind entries set₀ i₀ set i 
 abbrev begin : tie.At-scan invariant_scan decreases_scan → tie.Start invariant_scan decreases_scan
 begin c = c.before.before.before.before.before
 
-object_kind_requires : tie.Need-object-kind-requires invariant_scan decreases_scan
+object_kind_requires : tie.Need-object_kind-kind-requires invariant_scan decreases_scan
 object_kind_requires c κs =
-    let start = c.before.before in
+    let start = c in
     (start.requires.packed.words, omega (arith, c.wide.ensures, start.requires.below))
 
-entry_count_requires : tie.Need-entry-count-requires invariant_scan decreases_scan
-entry_count_requires c κs = c.before.before.before.requires.packed.words
+entry_count_requires : tie.Need-entry_count-entries-requires invariant_scan decreases_scan
+entry_count_requires c κs = c.requires.packed.words
 
 scan_holds : tie.Need-scan-init invariant_scan decreases_scan
 scan_holds c =
-    let args = c.before.before.before.before.args in
+    let args = c.args in
     scan_start args.book.now args.transaction args.object args.requested
 
 -- ---- Reading an entry
 
-inside : (c : tie.Else1 invariant_scan decreases_scan) → c.before.scan.i < word (begin c.before).args.book.now 0
-inside c = omega (arith, c.if1.false, c.before.scan.invariant.within, c.before.before.entry-count.ensures)
+inside : (c : tie.Else-i-entries invariant_scan decreases_scan) → c.scan.i < word (begin c.before).args.book.now 0
+inside c = omega (arith, c.if-i-entries.false, c.scan.invariant.within, c.entry_count-entries.ensures)
 
-readable : (c : tie.Else1 invariant_scan decreases_scan) → (length (begin c.before).args.book.now ≡ 3937)
-    × (c.before.scan.i < 256)
+readable : (c : tie.Else-i-entries invariant_scan decreases_scan) → (length (begin c.before).args.book.now ≡ 3937)
+    × (c.scan.i < 256)
 readable c =
     let packed = (begin c.before).pre.packed in (packed.words, omega (arith, inside c, packed.log.entries))
 
-abbrev Here : tie.After-entry-operation invariant_scan decreases_scan → Type 0
+abbrev Here : tie.After-entry_operation-logged invariant_scan decreases_scan → Type 0
 Here c =
     let at_scan = c.before.before.before.before in
     let args = (begin at_scan).args in
     AtEntry args.book.now args.transaction args.object args.requested at_scan.scan.set
     at_scan.scan.i
-    c.before.before.entry-transaction.result
-    c.before.entry-object.result
+    c.entry_transaction-owner.result
+    c.entry_object-on.result
 
-reached : (c : tie.After-entry-operation invariant_scan decreases_scan) → Here c
+reached : (c : tie.After-entry_operation-logged invariant_scan decreases_scan) → Here c
 reached c =
-    let read = c.before.before in
+    let read = c in
     record {
-      asked = (begin read.before.before).pre;
-      state = read.before.before.scan.invariant;
-      inside = inside read.before;
-      owned = read.entry-transaction.ensures;
-      placed = c.before.entry-object.ensures;
+      asked = (begin read.before.before.before.before).pre;
+      state = read.scan.invariant;
+      inside = inside read.before.before.before;
+      owned = read.entry_transaction-owner.ensures;
+      placed = c.entry_object-on.ensures;
     }
 
 -- Its own, or another object's.
-scan_again : tie.Need-scan-preserved invariant_scan decreases_scan
+scan_again : tie.Need-scan-preserved-then-owner-transaction invariant_scan decreases_scan
 scan_again c =
     ⊎_elim (λ w. pass_own (reached c.before) w.taken)
     (λ w. pass_other (reached c.before) (eqb-false _ _ (not-true _ w.1.taken)))
-    c.if2.branch
+    c.then-owner-transaction.branch-raw
 
 -- ---- The rule for it
 
-on_object_lem : (c : tie.Else3 invariant_scan decreases_scan)
-    → c.before.before.before.entry-object.result
+on_object_lem : (c : tie.Else-on-object invariant_scan decreases_scan)
+    → c.entry_object-on.result
     ≡ (begin c.before.before.before.before.before.before).args.object
-on_object_lem c = eqb-true _ _ (not-false _ c.if3.false)
+on_object_lem c = eqb-true _ _ (not-false _ c.if-on-object.false)
 
 -- Of an operation that the request is stored for: its pair with the entry's, of the kind that the object's word tells.
-module _ (c : tie.Else3 invariant_scan decreases_scan) where
-  abbrev read : tie.After-entry-operation invariant_scan decreases_scan
+module _ (c : tie.Else-on-object invariant_scan decreases_scan) where
+  abbrev read : tie.After-entry_operation-logged invariant_scan decreases_scan
   read = c.before.before
 
   abbrev at_scan : tie.At-scan invariant_scan decreases_scan
@@ -97,36 +97,36 @@ module _ (c : tie.Else3 invariant_scan decreases_scan) where
   abbrev start : tie.Start invariant_scan decreases_scan
   start = begin at_scan
 
-  pair : (kind : model.Kind) → Tells at_scan.before.before.object-kind.result kind
+  pair : (kind : model.Kind) → Tells at_scan.object_kind-kind.result kind
       → (o : model.Operation) → StoredAs start.args.requested o
-      → Pair kind start.args.requested read.entry-operation.result o
+      → Pair kind start.args.requested read.entry_operation-logged.result o
       (operation_at start.args.book.now at_scan.scan.i)
   pair kind tells =
       let found = at_scan.before.before in
-      paired (reached read) (on_object_lem c) found.object-kind.result
-      (found.object-kind.ensures ∙ ap (λ o. word start.args.book.now (object_start o))
-      found.before.wide.ensures) read.entry-operation.result
-      read.entry-operation.ensures tells
+      paired (reached read) (on_object_lem c) found.object_kind-kind.result
+      (found.object_kind-kind.ensures ∙ ap (λ o. word start.args.book.now (object_start o))
+      found.wide.ensures) read.entry_operation-logged.result
+      read.entry_operation-logged.ensures tells
 
-  fits : (kind : model.Kind) → Tells at_scan.before.before.object-kind.result kind
-      → Within kind start.args.requested.number read.entry-operation.result.number
+  fits : (kind : model.Kind) → Tells at_scan.object_kind-kind.result kind
+      → Within kind start.args.requested.number read.entry_operation-logged.result.number
   fits kind tells = let (o, s, k) = start.pre.kinded in within (pair kind tells o s)
 
-stack_recoverable_requires : tie.Need-stack-recoverable-requires invariant_scan decreases_scan
-stack_recoverable_requires c κs = fits c.before model.Stack (tells_stack _ c.match.keys1)
+stack_recoverable_requires : tie.Need-stack_recoverable-rule-requires invariant_scan decreases_scan
+stack_recoverable_requires c κs = fits c.before model.Stack (tells_stack _ c.in-1.is)
 
-set_recoverable_requires : tie.Need-set-recoverable-requires invariant_scan decreases_scan
-set_recoverable_requires c κs = fits c.before model.Set (tells_set _ c.match.keys2)
+set_recoverable_requires : tie.Need-set_recoverable-rule-requires invariant_scan decreases_scan
+set_recoverable_requires c κs = fits c.before model.Set (tells_set _ c.in-2.is)
 
-table_recoverable_requires : tie.Need-table-recoverable-requires invariant_scan decreases_scan
+table_recoverable_requires : tie.Need-table_recoverable-rule-requires invariant_scan decreases_scan
 table_recoverable_requires c κs =
-    fits c.before model.Table (tells_table _ c.match.rest.0.1 c.match.rest.1)
+    fits c.before model.Table (tells_table _ c.in_default.in_default-own.rest.0.1 c.in_default.in_default-own.rest.1)
 
 -- The code found by the kind is the one for the pair.
-ruled : (c : tie.At-match-branch invariant_scan decreases_scan) → (o : model.Operation)
+ruled : (c : tie.Joined-kind invariant_scan decreases_scan) → (o : model.Operation)
     → StoredAs (start c.before).args.requested o
-    → Ruled (start c.before).args.requested (read c.before).entry-operation.result o
-    (operation_at (start c.before).args.book.now (at_scan c.before).scan.i) c.match.rule
+    → Ruled (start c.before).args.requested (read c.before).entry_operation-logged.result o
+    (operation_at (start c.before).args.book.now (at_scan c.before).scan.i) c.match-kind.rule
 ruled c o s =
     ⊎_elim
     (λ w. record {
@@ -144,40 +144,40 @@ ruled c o s =
       pair = pair c.before model.Table (tells_table _ w.0.rest.0.1 w.0.rest.1) o s;
       code = w.2 ∙ w.1.ensures;
     }))
-    c.match.branch
+    c.match-kind.branch-raw
 
-scan_again_2 : tie.Need-scan-preserved-2 invariant_scan decreases_scan
+scan_again_2 : tie.Need-scan-preserved-in-1-rule invariant_scan decreases_scan
 scan_again_2 c =
     let other = c.before.before in
-    pass_recoverable (reached (read other)) other.before.if2.false (on_object_lem other)
-    (λ o s. always_yes (ruled c.before o s) c.match2.keys1)
+    pass_recoverable (reached (read other)) other.if-owner-transaction.false (on_object_lem other)
+    (λ o s. always_yes (ruled c.before o s) c.in-1-rule.is)
 
-scan_again_3 : tie.Need-scan-preserved-3 invariant_scan decreases_scan
+scan_again_3 : tie.Need-scan-preserved-then-requested-logged invariant_scan decreases_scan
 scan_again_3 c =
-    let coded = c.before.before.before in
-    let other = coded.before.before in
-    pass_recoverable (reached (read other)) other.before.if2.false (on_object_lem other)
-    (λ o s. other_keys (ruled coded.before o s) coded.match2.keys2 c.if4.true)
+    let coded = c in
+    let other = coded.before.before.before.before.before in
+    pass_recoverable (reached (read other)) other.if-owner-transaction.false (on_object_lem other)
+    (λ o s. other_keys (ruled coded.before.before.before.before o s) coded.in-2-rule.is c.if-requested-logged.true)
 
 single_requires : tie.Need-single-requires invariant_scan decreases_scan
 single_requires c κs = owner_below (reached (read c.before.before))
 
 -- An entry forces the wait where the rule is not `always`, and not `apart` with other keys.
-forced : (c : tie.At-match2-branch invariant_scan decreases_scan) → (o : model.Operation)
+forced : (c : tie.Joined-rule invariant_scan decreases_scan) → (o : model.Operation)
     → StoredAs (start c.before.before).args.requested o
     → recoverable o (operation_at (start c.before.before).args.book.now (at_scan c.before.before).scan.i)
     ≡ false
 forced c o s =
     ⊎_elim (λ w. same_keys (ruled c.before o s) w.0.keys2 w.3.left)
     (λ w. otherwise_no (ruled c.before o s) w.rest.0.1 w.rest.1)
-    c.match2.branch
+    c.match-rule.branch-raw
 
-scan_again_4 : tie.Need-scan-preserved-4 invariant_scan decreases_scan
+scan_again_4 : tie.Need-scan-preserved invariant_scan decreases_scan
 scan_again_4 c =
     let came = c.before.before in
     let other = came.before.before in
-    add_owner (reached (read other)) other.before.if2.false (on_object_lem other) (forced came)
-    c.before.single.result c.join.result c.before.single.ensures c.join.ensures
+    add_owner (reached (read other)) other.if-owner-transaction.false (on_object_lem other) (forced came)
+    c.single.result c.join-set.result c.single.ensures c.join-set.ensures
 
 -- ---- The way out
 
@@ -187,7 +187,7 @@ returns c =
     let args = (begin at_scan).args in
     scan_end args.book.now args.transaction args.object args.requested
     at_scan.scan.set at_scan.scan.i at_scan.scan.invariant
-    (omega (arith, c.if1.true, at_scan.before.entry-count.ensures))
+    (omega (arith, c.if-i-entries.true, at_scan.entry_count-entries.ensures))
 
 pub owners_spec : {M : Type 1} → statement M
 owners_spec =
