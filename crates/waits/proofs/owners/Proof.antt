@@ -1,4 +1,5 @@
 -- `waits::owners`: the set found, and what is left to scan, tell whom the request waits for.
+use borrow.Author.Tests.{eq-eqb}
 use Prim.Native.Nat.{◌-◌, ◌<◌}
 use mathlib.Core.Path.{◌≡◌, ap, ◌∙◌}
 use mathlib.Core.Bool.{false}
@@ -14,8 +15,8 @@ use Rattle.store.specs.Layout.{word, operation_at, object_start}
 use Rattle.pairs.specs.Laws.{Within}
 use Rattle.entry_log.specs.Log.{StoredAs}
 use Rattle.waits.specs.Laws.Rules.{Pair, within, Ruled, always_yes, same_keys, other_keys, otherwise_no}
-use Rattle.waits.specs.Laws.scan.{Scanning, scan_start, scan_end, AtEntry, pass_own, pass_other, pass_recoverable}
-use Rattle.waits.specs.Laws.scan.{owner_below, add_owner, paired}
+use Rattle.waits.specs.Laws.Scan.{Scanning, scan_start, scan_end, AtEntry, pass_own, pass_other, pass_recoverable}
+use Rattle.waits.specs.Laws.Scan.{owner_below, add_owner, paired}
 use Rattle.waits.proofs.owners.Statement.{statement}
 use Rattle.waits.proofs.owners.Tie as tie
 
@@ -50,7 +51,7 @@ inside c = omega (arith, c.if-i-entries.false, c.scan.invariant.within, c.entry_
 readable : (c : tie.Else-i-entries invariant_scan decreases_scan) → (length (begin c.before).args.book.now ≡ 3937)
     × (c.scan.i < 256)
 readable c =
-    let packed = (begin c.before).pre.packed in (packed.words, omega (arith, inside c, packed.log.entries))
+    let packed = (begin c.before).requires.packed in (packed.words, omega (arith, inside c, packed.log.entries))
 
 abbrev Here : tie.After-entry_operation-logged invariant_scan decreases_scan → Type 0
 Here c =
@@ -65,7 +66,7 @@ reached : (c : tie.After-entry_operation-logged invariant_scan decreases_scan) �
 reached c =
     let read = c in
     record {
-      asked = (begin read.before.before.before.before).pre;
+      asked = (begin read.before.before.before.before).requires;
       state = read.scan.invariant;
       inside = inside read.before.before.before;
       owned = read.entry_transaction-owner.ensures;
@@ -75,8 +76,8 @@ reached c =
 -- Its own, or another object's.
 scan_again : tie.Need-scan-preserved-then-owner-transaction invariant_scan decreases_scan
 scan_again c =
-    ⊎_elim (λ w. pass_own (reached c.before) w.taken)
-    (λ w. pass_other (reached c.before) (eqb-false _ _ (not-true _ w.1.taken)))
+    ⊎_elim (λ w. pass_own (reached c.before) w.if-owner-transaction.true)
+    (λ w. pass_other (reached c.before) w.if-on-object.true)
     c.then-owner-transaction.branch-raw
 
 -- ---- The rule for it
@@ -84,7 +85,7 @@ scan_again c =
 on_object_lem : (c : tie.Else-on-object invariant_scan decreases_scan)
     → c.entry_object-on.result
     ≡ (begin c.before.before.before.before.before.before).args.object
-on_object_lem c = eqb-true _ _ (not-false _ c.if-on-object.false)
+on_object_lem c = c.if-on-object.false
 
 -- Of an operation that the request is stored for: its pair with the entry's, of the kind that the object's word tells.
 module _ (c : tie.Else-on-object invariant_scan decreases_scan) where
@@ -110,7 +111,7 @@ module _ (c : tie.Else-on-object invariant_scan decreases_scan) where
 
   fits : (kind : model.Kind) → Tells at_scan.object_kind-kind.result kind
       → Within kind start.args.requested.number read.entry_operation-logged.result.number
-  fits kind tells = let (o, s, k) = start.pre.kinded in within (pair kind tells o s)
+  fits kind tells = let (o, s, k) = start.requires.kinded in within (pair kind tells o s)
 
 stack_recoverable_requires : tie.Need-stack_recoverable-rule-requires invariant_scan decreases_scan
 stack_recoverable_requires c κs = fits c.before model.Stack (tells_stack _ c.in-1.is)
@@ -131,18 +132,18 @@ ruled c o s =
     ⊎_elim
     (λ w. record {
       kind = model.Stack;
-      pair = pair c.before model.Stack (tells_stack _ w.0.keys1) o s;
-      code = w.2 ∙ w.1.ensures;
+      pair = pair c.before model.Stack (tells_stack _ w.in-1.is) o s;
+      code = w.rule-is ∙ w.stack_recoverable-rule.ensures;
     })
     (⊎_elim (λ w. record {
       kind = model.Set;
-      pair = pair c.before model.Set (tells_set _ w.0.keys2) o s;
-      code = w.2 ∙ w.1.ensures;
+      pair = pair c.before model.Set (tells_set _ w.in-2.is) o s;
+      code = w.rule-is ∙ w.set_recoverable-rule.ensures;
     })
     (λ w. record {
       kind = model.Table;
-      pair = pair c.before model.Table (tells_table _ w.0.rest.0.1 w.0.rest.1) o s;
-      code = w.2 ∙ w.1.ensures;
+      pair = pair c.before model.Table (tells_table _ w.in_default.in_default-own.rest.0.1 w.in_default.in_default-own.rest.1) o s;
+      code = w.rule-is ∙ w.table_recoverable-rule.ensures;
     }))
     c.match-kind.branch-raw
 
@@ -168,8 +169,8 @@ forced : (c : tie.Joined-rule invariant_scan decreases_scan) → (o : model.Oper
     → recoverable o (operation_at (start c.before.before).args.book.now (at_scan c.before.before).scan.i)
     ≡ false
 forced c o s =
-    ⊎_elim (λ w. same_keys (ruled c.before o s) w.0.keys2 w.3.left)
-    (λ w. otherwise_no (ruled c.before o s) w.rest.0.1 w.rest.1)
+    ⊎_elim (λ w. same_keys (ruled c.before o s) w.in-2-rule.is w.if-requested-logged.false)
+    (λ w. otherwise_no (ruled c.before o s) w.in_default-rule.in_default-rule-own.rest.0.1 w.in_default-rule.in_default-rule-own.rest.1)
     c.match-rule.branch-raw
 
 scan_again_4 : tie.Need-scan-preserved invariant_scan decreases_scan

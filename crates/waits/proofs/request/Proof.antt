@@ -10,14 +10,15 @@ key_stored : (c : tie.Joined-number) → c.match-number.stored ≡ key_for c.arg
 key_stored c =
     let n = c.args.number in
     let k = c.args.key in
-    ⊎_elim (λ w. w.1 ∙ item n k w.0.keys1)
+    ⊎_elim (λ w. w.stored-is ∙ item n k w.in-1.is)
     (⊎_elim
     (λ w.
-    w.2
-    ∙ reduced n k w.0.rest.0.1 w.0.rest.1
-    (⊎_elim (λ v. absurd (omega (arith, c.requires.0, v.taken))) (λ v. v.1.left) w.1.came))
-    (⊎_elim (λ w. w.1 ∙ keyless n k (inl w.0.keys2))
-    (λ w. w.3 ∙ keyless n k (inr (w.0.rest.0.1, w.2.taken)))))
+    w.stored-is
+    ∙ reduced n k w.in_default-1.rest.0.1 w.in_default-1.rest.1
+    (⊎_elim (λ v. absurd (omega (arith, c.requires.0, v.if-number-lt1-1.true))) (λ v. v.if-number-lt4-1.false)
+    w.in_default.branch-raw))
+    (⊎_elim (λ w. w.stored-is ∙ keyless n k (inl w.in-2.is))
+    (λ w. w.stored-is ∙ keyless n k (inr (w.in-2.in_default-own.rest.0.1, w.in-2.if-number-lt4-own.true)))))
     c.match-number.branch-raw
 
 returns : tie.Need-returns-in-7
