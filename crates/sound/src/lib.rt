@@ -21,7 +21,7 @@ fn bounded(book: &[u32]) -> bool
     entry_log::bounded(book)
 }
 
-// Whether a book is sound; of a sound one, who is pseudo_committed_lem.
+// Whether a book is sound; of a sound one, who is pseudo-committed.
 #[derive(Drop)]
 pub struct Examination {
     pub sound: bool,

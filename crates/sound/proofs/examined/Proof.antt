@@ -123,7 +123,7 @@ conflicts_requires c κs =
     let represented = c.before.before.before.before.before in
     let past = represented.before in
     let start = (past_formed past).before.before.before.before.before in
-    (is_packed past, (fit past).live, (fit past).ranges, represented.all.ensures, start.pre)
+    (is_packed past, (fit past).live, (fit past).ranges, represented.all.ensures, start.requires)
 
 unrecoverable : tie.Need-returns-6
 unrecoverable c =

@@ -37,7 +37,7 @@ inside c = omega (arith, c.loop-test.true, c.before.before.before.before.before.
 
 readable : (c : tie.In-loop invariant_loop decreases_loop)
     → (length (start c.before).args.book.now ≡ 3937) × (c.before.loop.i < 256)
-readable c = let s = start c.before in (s.pre.0.words, omega (arith, inside c, s.pre.0.log.entries))
+readable c = let s = start c.before in (s.requires.0.words, omega (arith, inside c, s.requires.0.log.entries))
 
 entry : (c : tie.After-wide invariant_loop decreases_loop) → let l = c.before.before.before in
     EntryOn (start l).args.book.now l.loop.i c.wide.result
@@ -64,7 +64,7 @@ taken c =
 bounds : (c : tie.After-rows-needed invariant_loop decreases_loop) → (c.before.wide2.result ≤ 64) × (c.rows-needed.result ≤ 1)
 bounds c =
     let l = (in_loop c).before in
-    let b = going.go_bounds (formed (start l)) l.loop.inv (taken c) in
+    let b = going.go_bounds (formed (start l)) l.loop.invariant (taken c) in
     (omega (arith, b.0, c.before.wide2.ensures), b.1)
 
 -- ---- Needs
@@ -108,7 +108,7 @@ add_taken c = omega (arith, bounds c)
 returns_2 : tie.Need-returns-2 invariant_loop decreases_loop
 returns_2 c =
     let l = (in_loop c.before).before in
-    going.go_full (formed (start l)) l.loop.inv (taken c.before) (omega (arith, c.if2.true))
+    going.go_full (formed (start l)) l.loop.invariant (taken c.before) (omega (arith, c.if2.true))
 
 cast_used : tie.Need-overflow_cast-used invariant_loop decreases_loop
 cast_used c = omega (arith, bounds c.before)
@@ -129,7 +129,7 @@ cast_cell : tie.Need-overflow_cast-cell invariant_loop decreases_loop
 cast_cell c =
     let w = in_loop c.before.before in
     let l = w.before in
-    omega (arith, ((start l).pre.3.each l.loop.i (inside w)).within, readable w)
+    omega (arith, ((start l).requires.3.each l.loop.i (inside w)).within, readable w)
 
 serve_requires : tie.Need-serve-requires invariant_loop decreases_loop
 serve_requires c κs =
@@ -137,15 +137,15 @@ serve_requires c κs =
     let l = (in_loop w).before in
     record {
       entry = entry w.before.before.before;
-      represents = (start l).pre.3.each l.loop.i (inside (in_loop w));
-      state = l.loop.inv.state;
+      represents = (start l).requires.3.each l.loop.i (inside (in_loop w));
+      state = l.loop.invariant.state;
     }
 
 returns_3 : tie.Need-returns-3 invariant_loop decreases_loop
 returns_3 c =
     let w = at_serve c.before in
     let l = (in_loop w).before in
-    going.go_wrong (formed (start l)) l.loop.inv (taken w) c.before.serve.ensures c.if3.true
+    going.go_wrong (formed (start l)) l.loop.invariant (taken w) c.before.serve.ensures c.if3.true
 
 add_i : tie.Need-overflow_add-i invariant_loop decreases_loop
 add_i c = omega (arith, readable (in_loop (at_serve c.before)))
@@ -157,7 +157,7 @@ loop_again : tie.Need-loop-preserved invariant_loop decreases_loop
 loop_again c =
     let w = at_serve c.before in
     let l = (in_loop w).before in
-    going.go_on (formed (start l)) l.loop.inv (taken w) c.before.serve.ensures c.if3.false
+    going.go_on (formed (start l)) l.loop.invariant (taken w) c.before.serve.ensures c.if3.false
     (omega (arith, c.before.before.before.before.before.before.before.if2.false))
 
 returns_4 : tie.Need-returns-4 invariant_loop decreases_loop

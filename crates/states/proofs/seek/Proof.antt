@@ -27,9 +27,9 @@ few : (c : tie.At-loop invariant_loop decreases_loop)
     → (c.loop.low + c.loop.left ≤ 64) × ((start c).args.object < 16) × (length (start c).args.book.now ≡ 3937)
 few c =
     let s = start c in (
-      omega (arith, c.loop.invariant.within, (s.pre.packed.objects s.args.object s.pre.within).rows),
-      s.pre.within,
-      s.pre.packed.words,
+      omega (arith, c.loop.invariant.within, (s.requires.packed.objects s.args.object s.requires.within).rows),
+      s.requires.within,
+      s.requires.packed.words,
     )
 
 loop_holds : tie.Need-loop-init invariant_loop decreases_loop
@@ -62,12 +62,12 @@ loop_again c =
     ⊎_elim
     (λ w.
     rw w.1
-    (seek_above s.args.book.now s.args.object s.args.key s.pre.ascending l.invariant (l.left / 2)
+    (seek_above s.args.book.now s.args.object s.args.key s.requires.ascending l.invariant (l.left / 2)
     (omega (arith, in_loop.loop-test.true))
     (omega (arith, w.0.taken, read.ensures))))
     (λ w.
     rw w.1
-    (seek_below s.args.book.now s.args.object s.args.key s.pre.ascending l.invariant (l.left / 2)
+    (seek_below s.args.book.now s.args.object s.args.key s.requires.ascending l.invariant (l.left / 2)
     (omega arith)
     (omega (arith, w.0.left, read.ensures))))
     c.if1.branch
@@ -85,7 +85,7 @@ returns c =
     let s = start at_loop in
     let read = c.before.before.row-key2 in
     ap (answering 1) c.row-value.ensures
-    ∙ seek_found s.args.book.now s.args.object s.args.key s.pre.ascending at_loop.loop.invariant
+    ∙ seek_found s.args.book.now s.args.object s.args.key s.requires.ascending at_loop.loop.invariant
     c.before.before.before.if2.true
     (sym read.ensures ∙ eqb-true _ _ c.before.if3.true)
 
@@ -93,7 +93,7 @@ returns_2 : tie.Need-returns-2 invariant_loop decreases_loop
 returns_2 c =
     let at_loop = c.before.before in
     let s = start at_loop in
-    seek_absent s.args.book.now s.args.object s.args.key s.pre.ascending at_loop.loop.invariant
+    seek_absent s.args.book.now s.args.object s.args.key s.requires.ascending at_loop.loop.invariant
     (omega (arith, c.before.loop-test.false))
     (λ one e. ⊎_elim (λ w. eqb-false _ _ w.2.left (w.1.ensures ∙ e)) (λ w. w.left one) c.if2.branch)
 

@@ -21,7 +21,7 @@ serve_stack_requires c κs =
 returns : tie.Need-returns
 returns c =
     let s = start c.before.before.before.before.before.before in
-    c.serve-stack.ensures s.args.cells.now s.pre.state
+    c.serve-stack.ensures s.args.cells.now s.requires.state
 
 serve_keyed_requires : tie.Need-serve-keyed-requires
 serve_keyed_requires c κs =
@@ -32,7 +32,7 @@ serve_keyed_requires c κs =
 returns_2 : tie.Need-returns-2
 returns_2 c =
     let s = start c.before.before.before.before.before in
-    c.serve-keyed.ensures s.args.tops.now s.args.below.now s.pre.state
+    c.serve-keyed.ensures s.args.tops.now s.args.below.now s.requires.state
 
 pub serve_spec : {M : Type 1} → statement M
 serve_spec = tie.close (tie.spec entry_operation_requires serve_stack_requires returns serve_keyed_requires returns_2)

@@ -102,9 +102,9 @@ returns_2 c =
     let answer = c.before.before.before.before.entry-answer in
     let test = c.before.before.before.same_answer in
     let next = c.before.changed in
-    keyed.served (start held).pre read.result read.ensures held.held.result held.held.ensures
+    keyed.served (start held).requires read.result read.ensures held.held.result held.held.ensures
     (answer_of given.result) given.ensures test.result
-    (tests (start held).pre.entry (answer_of given.result) answer.result test.result answer.ensures
+    (tests (start held).requires.entry (answer_of given.result) answer.result test.result answer.ensures
     test.ensures) c.before.before.if1.false
     next.result next.ensures c.count-after.result c.count-after.ensures
 
