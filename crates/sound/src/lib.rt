@@ -1,5 +1,6 @@
 // Whether a book is sound. Every call but set up asks this first.
 #![tactic(auto)]
+
 ghost use Rattle.std.specs.Prelude.{◌≡◌, true, ◌↔◌, replicate};
 ghost use Rattle.store.specs.Store.{transaction_count};
 ghost use Rattle.store.specs.Layout.{base};
