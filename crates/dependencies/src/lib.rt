@@ -3,6 +3,7 @@
 // each earlier entry. Pushes onto one object, and modifies of one key, commute where their items, or values, are equal:
 // who has different ones is kept besides.
 #![tactic(auto)]
+
 ghost use Rattle.std.specs.Prelude.{◌≡◌, true, ◌↔◌, ◌+◌, ◌<◌, length, get_or, replicate};
 ghost use Rattle.store.specs.Store.{transaction_count};
 ghost use Rattle.bitset.specs.Bitset.{In, Represents};

@@ -1,6 +1,7 @@
 // The graph of commit dependencies (document 000, section 4.1), as the sets of those on whom each transaction depends:
 // an edge leads from a transaction to one that it depends on.
 #![tactic(auto)]
+
 ghost use Rattle.std.specs.Prelude.{◌≡◌, true, ◌↔◌, ℕ, ◌<◌, get_or};
 ghost use Rattle.store.specs.Store.{transaction_count};
 ghost use Rattle.bitset.specs.Bitset.{In, Holds};

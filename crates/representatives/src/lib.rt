@@ -1,6 +1,7 @@
 // Entries of the log found again: the first with an object and key represents those like it. Where values count, only
 // modifies are looked at, and the first with an object, key and value represents those like it.
 #![tactic(auto)]
+
 ghost use Rattle.std.specs.Prelude.{◌≡◌, true, ◌↔◌, ◌+◌, ◌<◌};
 ghost use Rattle.store.specs.Layout.{word, base, decode, Packed};
 ghost use Rattle.store.specs.Soundness.{EntriesLive, EntriesFit};

@@ -1,5 +1,6 @@
 // Whether a book is sound. Every call but set up asks this first.
 #![tactic(auto)]
+
 ghost use Rattle.std.specs.Prelude.{◌≡◌, true, ◌↔◌, replicate};
 ghost use Rattle.store.specs.Store.{transaction_count};
 ghost use Rattle.store.specs.Layout.{base};
@@ -21,7 +22,7 @@ fn bounded(book: &[u32]) -> bool
     entry_log::bounded(book)
 }
 
-// Whether a book is sound; of a sound one, who is pseudo_committed_lem.
+// Whether a book is sound; of a sound one, who is pseudo-committed.
 #[derive(Drop)]
 pub struct Examination {
     pub sound: bool,

@@ -5,6 +5,7 @@
 // would answer. `counts` has the rows of each object; `tops` the entry that pushed the item on top of each stack, plus
 // one, or 0 where that item is a row of the book; `below`, for each push, what the stack's top was before it.
 #![tactic(auto)]
+
 ghost use Rattle.std.specs.Prelude.{◌≡◌, true, ◌↔◌, ◌≤◌, ◌<◌, length};
 ghost use Rattle.store.specs.Store.{entry_limit, object_count};
 ghost use Rattle.operations.specs.Operations.{row_limit};

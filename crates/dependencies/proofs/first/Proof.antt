@@ -5,14 +5,14 @@ use Rattle.operations.specs.Laws.Numbers.{numbered_stack, numbered_set, numbered
 use Rattle.dependencies.proofs.first.Statement.{statement}
 use Rattle.dependencies.proofs.first.Tie as tie
 
-returns : tie.Need-returns
-returns c = ap first_number (sym (numbered_stack _ c.if1.true))
+returns : tie.Need-returns-then-number-le-TOP
+returns c = ap first_number (sym (numbered_stack _ c.if-number-le-TOP.true))
 
-returns_2 : tie.Need-returns-2
-returns_2 c = ap first_number (sym (numbered_set _ c.before.if1.false c.if2.true))
+returns_2 : tie.Need-returns-then-number-le-MEMBER
+returns_2 c = ap first_number (sym (numbered_set _ c.before.if-number-le-TOP.false c.if-number-le-MEMBER.true))
 
-returns_3 : tie.Need-returns-3
-returns_3 c = ap first_number (sym (numbered_table _ c.if2.false))
+returns_3 : tie.Need-returns
+returns_3 c = ap first_number (sym (numbered_table _ c.if-number-le-MEMBER.false))
 
 pub first_spec : {M : Type 1} → statement M
 first_spec = tie.close (tie.spec returns returns_2 returns_3)

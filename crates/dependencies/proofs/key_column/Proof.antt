@@ -6,30 +6,30 @@ use Rattle.dependencies.specs.Laws.Columns.{low_column, high_column, middle_colu
 use Rattle.dependencies.proofs.key_column.Statement.{statement}
 use Rattle.dependencies.proofs.key_column.Tie as tie
 
-second : tie.Need-returns
+second : tie.Need-returns-in-5
 unfolding key_column
-second c = ⊎_elim (λ e. sym (ap key_column e)) (λ e. sym (ap key_column e)) c.match.keys2
+second c = ⊎_elim (λ e. sym (ap key_column e)) (λ e. sym (ap key_column e)) c.in-5.is
 
-third : tie.Need-returns-2
+third : tie.Need-returns-in-6
 unfolding key_column
-third c = ⊎_elim (λ e. sym (ap key_column e)) (λ e. sym (ap key_column e)) c.match.keys3
+third c = ⊎_elim (λ e. sym (ap key_column e)) (λ e. sym (ap key_column e)) c.in-6.is
 
-low : tie.Need-returns-3
-low c = low_column _ c.if1.true (λ e. c.before.match.rest.0.0.1 (inl e))
+low : tie.Need-returns-in_default
+low c = low_column _ c.in_default.if-number-lt4-own.true (λ e. c.in_default.in_default-own.rest.0.0.1 (inl e))
 
-high : tie.Need-returns-4
+high : tie.Need-returns-in_default-2
 high c =
-    let others = c.before.before.match.rest in
-    high_column _ c.if2.false (λ e. others.0.1 (inr e)) (λ e. others.1 (inr e))
+    let others = c.in_default.in_default-own.rest in
+    high_column _ c.in_default.if-number-lt9-own.false (λ e. others.0.1 (inr e)) (λ e. others.1 (inr e))
 
-first : tie.Need-returns-5
+first : tie.Need-returns-in-1
 unfolding key_column
-first c = ⊎_elim (λ e. sym (ap key_column e)) (λ e. sym (ap key_column e)) c.match.keys1
+first c = ⊎_elim (λ e. sym (ap key_column e)) (λ e. sym (ap key_column e)) c.in-1.is
 
-middle : tie.Need-returns-6
+middle : tie.Need-returns-in-1-2
 middle c =
-    let others = c.before.before.match.rest in
-    middle_column _ c.before.if1.false c.if2.true (λ e. others.0.0.1 (inr e)) (λ e. others.0.1 (inl e))
+    let others = c.in-1.in_default-own.rest in
+    middle_column _ c.in-1.if-number-lt4-own.false c.in-1.if-number-lt9-own.true (λ e. others.0.0.1 (inr e)) (λ e. others.0.1 (inl e))
     (λ e. others.1 (inl e))
 
 pub key_column_spec : {M : Type 1} → statement M

@@ -9,8 +9,8 @@ returns : tie.Need-returns
 returns c =
     let start = c.before.before.before.before.before in
     entry_read start.args.book.now start.requires.0 start.args.i start.requires.1 _ _ _
-    c.before.before.entry-transaction.ensures
-    (c.wide.ensures ∙ c.before.entry-object.ensures) c.before.before.before.entry-operation.ensures.0
+    c.before.before.entry_transaction.ensures
+    (c.wide.ensures ∙ c.before.entry_object.ensures) c.before.before.before.entry_operation-operation.ensures.0
 
 pub read_spec : {M : Type 1} → statement M
 read_spec =

@@ -69,7 +69,7 @@ find_spec =
     alike_requires
     returns
     (λ c. omega (arith, within c.before.before))
-    (λ c. within c.before.before)
+    (λ c. within c.before.before.before)
     loop_less
     loop_again
     returns_2)

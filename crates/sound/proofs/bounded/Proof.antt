@@ -6,18 +6,18 @@ use Rattle.sound.specs.Laws.{refused, of_another_length, last}
 use Rattle.sound.proofs.bounded.Statement.{statement}
 use Rattle.sound.proofs.bounded.Tie as tie
 
-returns : tie.Need-returns
-returns c = of_another_length _ c.if1.true
+returns : tie.Need-returns-then-book-ne-WORDS
+returns c = of_another_length _ c.if-book-ne-WORDS.true
 
-objects : tie.Need-returns-2
-objects c = refused c.before.packed.ensures (not-true _ c.if2.true) (λ (b : Bounded _). b.objects)
+objects : tie.Need-returns-then-not-packed
+objects c = refused c.packed.ensures c.if-not-packed.true (λ (b : Bounded _). b.objects)
 
-log : tie.Need-returns-3
+log : tie.Need-returns
 log c =
     last c.bounded.ensures
     (λ l. record {
-      words = c.before.before.before.if1.false;
-      objects = c.before.before.packed.ensures.0 (not-false _ c.before.if2.false);
+      words = c.if-book-ne-WORDS.false;
+      objects = c.packed.ensures.0 c.if-not-packed.false;
       log = l;
     })
     (λ (b : Bounded _). b.log)

@@ -4,16 +4,16 @@ use Rattle.states.specs.Laws.Words as words
 use Rattle.states.proofs.count_after.Statement.{statement}
 use Rattle.states.proofs.count_after.Tie as tie
 
-returns : tie.Need-returns
-returns c = let s = c.before in words.one_more s.args.number s.args.code s.args.count c.match.keys1
+returns : tie.Need-returns-in-4
+returns c = let s = c.before in words.one_more s.args.number s.args.code s.args.count c.in-4.is
 
-returns_2 : tie.Need-returns-2
-returns_2 c = let s = c.before in words.one_less s.args.number s.args.code s.args.count c.match.keys2
+returns_2 : tie.Need-returns-in-5
+returns_2 c = let s = c.before in words.one_less s.args.number s.args.code s.args.count c.in-5.is
 
-returns_3 : tie.Need-returns-3
+returns_3 : tie.Need-returns-in_default
 returns_3 c =
     let s = c.before in
-    words.as_many s.args.number s.args.code s.args.count c.match.rest.0.1 c.match.rest.1
+    words.as_many s.args.number s.args.code s.args.count c.in_default.in_default-own.rest.0.1 c.in_default.in_default-own.rest.1
 
 pub count_after_spec : {M : Type 1} → statement M
 count_after_spec =

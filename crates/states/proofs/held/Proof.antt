@@ -5,11 +5,11 @@ use borrow.Author.Rules.{rules}
 use Rattle.states.proofs.held.Statement.{statement}
 use Rattle.states.proofs.held.Tie as tie
 
-returns : tie.Need-returns
-returns c = (λ e. c.seek.ensures, λ e. absurd (true≢false (sym c.before.if1.true ∙ e)))
+returns : tie.Need-returns-then-met
+returns c = (λ e. c.seek.ensures, λ e. absurd (true≢false (sym c.if-met.true ∙ e)))
 
-returns_2 : tie.Need-returns-2
-returns_2 c = (λ e. absurd (true≢false (sym e ∙ c.before.before.if1.false)), λ e. refl)
+returns_2 : tie.Need-returns
+returns_2 c = (λ e. absurd (true≢false (sym e ∙ c.if-met.false)), λ e. refl)
 
 pub held_spec : {M : Type 1} → statement M
 held_spec =

@@ -10,92 +10,92 @@ use Rattle.states.specs.Laws.Seeking.{Seeking, seek_start, seek_above, seek_belo
 use Rattle.states.proofs.seek.Statement.{statement}
 use Rattle.states.proofs.seek.Tie as tie
 
-abbrev invariant_loop : tie.invariant-loop
+abbrev invariant_loop : tie.invariant-loop-left
 invariant_loop book object key low₀ left₀ low left = Seeking book object key low left
 
-abbrev decreases_loop : tie.decreases-loop
+abbrev decreases_loop : tie.decreases-loop-left
 decreases_loop book object key low₀ left₀ low left = left
 
-row_count_requires : tie.Need-row-count-requires invariant_loop decreases_loop
-row_count_requires c κs = (c.before.requires.packed.words, c.before.requires.within)
+row_count_requires : tie.Need-row_count-left-requires invariant_loop decreases_loop
+row_count_requires c κs = (c.requires.packed.words, c.requires.within)
 
-abbrev start : tie.At-loop invariant_loop decreases_loop → tie.Start invariant_loop decreases_loop
+abbrev start : tie.At-loop-left invariant_loop decreases_loop → tie.Start invariant_loop decreases_loop
 start c = c.before.before.before
 
 -- The places that are left are rows.
-few : (c : tie.At-loop invariant_loop decreases_loop)
-    → (c.loop.low + c.loop.left ≤ 64) × ((start c).args.object < 16) × (length (start c).args.book.now ≡ 3937)
+few : (c : tie.At-loop-left invariant_loop decreases_loop)
+    → (c.loop-left.low + c.loop-left.left ≤ 64) × ((start c).args.object < 16) × (length (start c).args.book.now ≡ 3937)
 few c =
     let s = start c in (
-      omega (arith, c.loop.invariant.within, (s.pre.packed.objects s.args.object s.pre.within).rows),
-      s.pre.within,
-      s.pre.packed.words,
+      omega (arith, c.loop-left.invariant.within, (s.requires.packed.objects s.args.object s.requires.within).rows),
+      s.requires.within,
+      s.requires.packed.words,
     )
 
-loop_holds : tie.Need-loop-init invariant_loop decreases_loop
+loop_holds : tie.Need-loop-left-init invariant_loop decreases_loop
 loop_holds c =
-    let s = c.before.before in
-    seek_start s.args.book.now s.args.object s.args.key c.row_count.result c.row_count.ensures
+    let s = c in
+    seek_start s.args.book.now s.args.object s.args.key c.row_count-left.result c.row_count-left.ensures
 
-add_row_key : tie.Need-overflow_add-row-key invariant_loop decreases_loop
+add_row_key : tie.Need-overflow_add-low invariant_loop decreases_loop
 add_row_key c = omega (arith, few c.before)
 
-row_key_requires : tie.Need-row-key-requires invariant_loop decreases_loop
-row_key_requires c κs = let f = few c.before in (f.2, f.1, omega (arith, f, c.loop-test.true))
+row_key_requires : tie.Need-row_key-requires invariant_loop decreases_loop
+row_key_requires c κs = let f = few c.before in (f.2, f.1, omega (arith, f, c.loop-left-test.true))
 
-add_low : tie.Need-overflow_add-low invariant_loop decreases_loop
+add_low : tie.Need-overflow_add-low-then-row_key-key invariant_loop decreases_loop
 add_low c = omega (arith, few c.before.before.before)
 
 sub_left : tie.Need-overflow_sub-left invariant_loop decreases_loop
-sub_left c = omega (arith, c.before.before.loop-test.true)
+sub_left c = omega (arith, c.loop-left-test.true)
 
-loop_less : tie.Need-loop-smaller invariant_loop decreases_loop
-loop_less c = omega (arith, c.before.before.loop-test.true)
+loop_less : tie.Need-loop-left-smaller invariant_loop decreases_loop
+loop_less c = omega (arith, c.loop-left-test.true)
 
-loop_again : tie.Need-loop-preserved invariant_loop decreases_loop
+loop_again : tie.Need-loop-left-preserved invariant_loop decreases_loop
 loop_again c =
-    let in_loop = c.before.before in
-    let at_loop = in_loop.before in
+    let in_loop = c in
+    let at_loop = in_loop.before.before.before in
     let s = start at_loop in
-    let l = at_loop.loop in
-    let read = c.before.row-key in
+    let l = at_loop.loop-left in
+    let read = c.row_key in
     ⊎_elim
     (λ w.
-    rw w.1
-    (seek_above s.args.book.now s.args.object s.args.key s.pre.ascending l.invariant (l.left / 2)
-    (omega (arith, in_loop.loop-test.true))
-    (omega (arith, w.0.taken, read.ensures))))
+    rw w.low-is
+    (seek_above s.args.book.now s.args.object s.args.key s.requires.ascending l.invariant (l.left / 2)
+    (omega (arith, in_loop.loop-left-test.true))
+    (omega (arith, w.if-row_key-key.true, read.ensures))))
     (λ w.
-    rw w.1
-    (seek_below s.args.book.now s.args.object s.args.key s.pre.ascending l.invariant (l.left / 2)
+    rw w.low-is
+    (seek_below s.args.book.now s.args.object s.args.key s.requires.ascending l.invariant (l.left / 2)
     (omega arith)
-    (omega (arith, w.0.left, read.ensures))))
-    c.if1.branch
+    (omega (arith, w.if-row_key-key.false, read.ensures))))
+    c.if-row_key-key.branch-raw
 
-row_key_requires_2 : tie.Need-row-key-requires-2 invariant_loop decreases_loop
-row_key_requires_2 c κs = let f = few c.before.before in (f.2, f.1, omega (arith, f, c.if2.true))
+row_key_requires_2 : tie.Need-row_key-requires-then-left-eq1 invariant_loop decreases_loop
+row_key_requires_2 c κs = let f = few c.before.before in (f.2, f.1, omega (arith, f, c.if-left-eq1.true))
 
-row_value_requires : tie.Need-row-value-requires invariant_loop decreases_loop
+row_value_requires : tie.Need-row_value-requires invariant_loop decreases_loop
 row_value_requires c κs =
-    let f = few c.before.before.before.before in (f.2, f.1, omega (arith, f, c.before.before.if2.true))
+    let f = few c.before.before.before.before in (f.2, f.1, omega (arith, f, c.if-left-eq1.true))
 
-returns : tie.Need-returns invariant_loop decreases_loop
+returns : tie.Need-returns-then-row_key-key-2 invariant_loop decreases_loop
 returns c =
     let at_loop = c.before.before.before.before.before in
     let s = start at_loop in
-    let read = c.before.before.row-key2 in
-    ap (answering 1) c.row-value.ensures
-    ∙ seek_found s.args.book.now s.args.object s.args.key s.pre.ascending at_loop.loop.invariant
-    c.before.before.before.if2.true
-    (sym read.ensures ∙ eqb-true _ _ c.before.if3.true)
+    let read = c.row_key-then-left-eq1 in
+    ap (answering 1) c.row_value.ensures
+    ∙ seek_found s.args.book.now s.args.object s.args.key s.requires.ascending at_loop.loop-left.invariant
+    c.if-left-eq1.true
+    (sym read.ensures ∙ c.if-row_key-key-2.true)
 
-returns_2 : tie.Need-returns-2 invariant_loop decreases_loop
+returns_2 : tie.Need-returns invariant_loop decreases_loop
 returns_2 c =
     let at_loop = c.before.before in
     let s = start at_loop in
-    seek_absent s.args.book.now s.args.object s.args.key s.pre.ascending at_loop.loop.invariant
-    (omega (arith, c.before.loop-test.false))
-    (λ one e. ⊎_elim (λ w. eqb-false _ _ w.2.left (w.1.ensures ∙ e)) (λ w. w.left one) c.if2.branch)
+    seek_absent s.args.book.now s.args.object s.args.key s.requires.ascending at_loop.loop-left.invariant
+    (omega (arith, c.loop-left-test.false))
+    (λ one e. ⊎_elim (λ w. w.if-row_key-key-2.false (w.row_key-then-left-eq1.ensures ∙ e)) (λ w. w.if-left-eq1.false one) c.else-left-eq1.branch-raw)
 
 pub seek_spec : {M : Type 1} → statement M
 seek_spec =
