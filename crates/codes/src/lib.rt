@@ -1,5 +1,6 @@
 // A reply as numbers: the reply codes of 02, No. 3, and the values beside them.
 #![tactic(auto)]
+
 ghost use Rattle.std.specs.Prelude.{◌≡◌};
 ghost use Rattle.protocol.specs.ReplyOf.{reply_of};
 ghost use Rattle.codes.specs.Codes.{numbers_of as NumbersOf, listed as Listed};

@@ -1,6 +1,7 @@
 // The journal: definitions of its bytes, of a writer and of a reader, and theorems about them, in specs/; and the types
 // of records.
 #![tactic(auto)]
+
 use protocol::{BATCH, OPERATION_WORDS};
 
 // A record that cannot be read, or not written; `Cause` says why.

@@ -1,5 +1,5 @@
 -- Which letter a byte is, or that it is none.
-use Rattle.std.specs.Prelude.{ℕ, ◌+◌, ◌*◌, ◌≤◌, ◌<◌, ◌≡◌, refl, false}
+use Rattle.std.specs.Prelude.{ℕ, ◌+◌, ◌*◌, ◌≤◌, ◌<◌, ◌≡◌, false}
 use Rattle.std.proofs.Common.{sym, subst, arith, ne_eqb}
 use Rattle.operations.specs.Laws.Cases.{same, by_key}
 use Rattle.journal.specs.Records.{arguments_of, gives}

@@ -1,5 +1,6 @@
 // What stands in a record of a letter: how many arguments and answers, and which reply codes.
 #![tactic(auto)]
+
 ghost use Rattle.std.specs.Prelude.{◌≡◌, ◌≤◌};
 ghost use Rattle.journal.specs.Records.{arguments_of as ArgumentsOf, has_reply as HasReply, gives as Gives};
 ghost use Rattle.journal.specs.Coded.{or_zero, argument_count as ArgumentCount, answer_count as AnswerCount};

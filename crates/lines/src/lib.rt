@@ -1,5 +1,6 @@
 // A line of a script, read as a call.
 #![tactic(auto)]
+
 ghost use Rattle.std.specs.Prelude.{◌≡◌, List, ℕ, ◌*◌, ◌≤◌, length, take, drop};
 ghost use Rattle.protocol.specs.Calls.{operation_words, batch_limit};
 ghost use Rattle.lines.specs.Lines.{asked, set_up_of, batch_of, call_in};

@@ -45,7 +45,7 @@ pub const LENT_KEY: usize = 2;
 pub const LENT_VALUE: usize = 3;
 
 // What a call replies; `ReplyOf` says which of the paper's each is.
-#[derive(Drop)]
+#[derive(Clone, Copy)]
 pub enum Reply {
     Ok,
     // code and value

@@ -1,5 +1,6 @@
 // A reply, put into a buffer as it is printed.
 #![tactic(auto)]
+
 ghost use Rattle.std.specs.Prelude.{◌≡◌, [], ◌∷◌, map, ◌+◌, ◌*◌, ◌≤◌, min, length, take};
 ghost use Rattle.operations.specs.Stored.{answer_of};
 ghost use Rattle.bitset.specs.Bitset.{members};

@@ -102,7 +102,6 @@ module _ (line values : List ℕ) (count at : ℕ) (r : Reading line values coun
         field = take (end - (at + 1)) (drop (at + 1) line)
 
         behind_field : behind (drop at line) ≡ with_first (number_in field) (behind (drop end line))
-        unfolding slice
         behind_field =
             let text = drop (at + 1) line in
             let k = index_of space text in
