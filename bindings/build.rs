@@ -1,4 +1,4 @@
-//! Links the proved library, which `rt staticlib capi` writes.
+//! Links the proved library, which `tools/build library` writes.
 
 use std::env;
 use std::path::Path;
@@ -8,7 +8,7 @@ fn main() {
     let folder = Path::new(&package).join("../target/staticlib");
     let library = folder.join("libcapi.a");
     if !library.exists() {
-        panic!("{} is missing: run 'rt staticlib capi' first", library.display());
+        panic!("{} is missing: run 'tools/build library' first", library.display());
     }
     println!("cargo:rustc-link-search=native={}", folder.display());
     println!("cargo:rustc-link-lib=static=capi");

@@ -337,16 +337,17 @@ struct Repository(PathBuf);
 
 impl Repository {
     /// Commands that `./desk` needs to serve and to build: all but `rt`.
-    const COMMANDS: [&'static str; 12] =
-        ["awk", "bash", "cat", "cp", "dirname", "find", "grep", "mktemp", "readlink", "rm", "tee", "touch"];
+    const COMMANDS: [&'static str; 14] = [
+        "awk", "bash", "cat", "cp", "dirname", "find", "grep", "mkdir", "mktemp", "mv", "readlink", "rm", "tee", "touch",
+    ];
 
     fn new(name: &str) -> Self {
         Program::lending_desk();
         let repository = Repository(folder(name));
-        for name in ["bin", "crates", "target/bin"] {
+        for name in ["bin", "crates/lending_desk/out", "target/bin", "tools"] {
             fs::create_dir_all(repository.0.join(name)).expect("a folder is made");
         }
-        for name in ["desk", "crates.txt", "target/bin/lending_desk"] {
+        for name in ["desk", "crates.txt", "target/bin/lending_desk", "tools/build"] {
             fs::copy(root().join(name), repository.0.join(name)).expect("a file is copied");
         }
         let path = env::var_os("PATH").expect("commands are found");
@@ -375,7 +376,7 @@ impl Repository {
     /// Puts an `rt` there that builds the program, and speaks as the real one does.
     fn add_rt(&self) {
         fs::copy(self.program(), self.0.join("kept")).expect("a file is copied");
-        self.add_command("bin/rt", "echo 'rt: script proved'\ncp kept target/bin/lending_desk\n");
+        self.add_command("bin/rt", "echo 'logic=proved functions=1'\ncp ../../kept out/lending_desk\n");
     }
 
     fn add_command(&self, name: &str, text: &str) {

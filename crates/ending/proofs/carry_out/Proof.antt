@@ -10,18 +10,18 @@ use Rattle.ending.specs.Laws.Carrying.{named, foldable}
 use Rattle.ending.proofs.carry_out.Statement.{statement}
 use Rattle.ending.proofs.carry_out.Tie as tie
 
-abbrev invariant_loop : tie.invariant-loop
+abbrev invariant_loop : tie.invariant-loop-i
 invariant_loop book₀ transaction count i₀ book i =
     (count ≤ 256) × (count ≡ word book₀ 0) × (i ≤ count) × Carrying book₀ transaction i book
 
-abbrev decreases_loop : tie.decreases-loop
+abbrev decreases_loop : tie.decreases-loop-i
 decreases_loop book₀ transaction count i₀ book i = count - i
 
-loop_holds : tie.Need-loop-init invariant_loop decreases_loop
+loop_holds : tie.Need-loop-i-init invariant_loop decreases_loop
 loop_holds c =
-    let start = c.before.before.before in (
-      omega (arith, c.entry-count.ensures, start.requires.0.log.entries),
-      c.entry-count.ensures,
+    let start = c in (
+      omega (arith, c.entry_count-count.ensures, start.requires.0.log.entries),
+      c.entry_count-count.ensures,
       omega arith,
       carrying_begun start.args.book.now start.args.transaction start.requires.0 start.requires.1
           start.requires.2,
@@ -29,18 +29,18 @@ loop_holds c =
 
 fold_requires : tie.Need-fold-requires invariant_loop decreases_loop
 fold_requires c κs =
-    let operation = c.before in
-    let wide = operation.before.before in
-    let turn = wide.before.before.before.before.before.before in
-    let at_loop = turn.before in
-    let start = at_loop.before.before.before.before in
-    let loop = at_loop.loop in
+    let operation = c in
+    let wide = operation in
+    let turn = wide in
+    let at_loop = turn in
+    let start = at_loop in
+    let loop = at_loop.loop-i in
     let inv = loop.invariant in
     let book = start.args.book.now in
     let t = start.args.transaction in
-    let l : loop.i < word book 0 = omega (arith, turn.loop-test.true, inv.1) in
-    let object = wide.wide.ensures ∙ wide.before.entry-object.ensures in
-    let read = operation.entry-operation.ensures in
+    let l : loop.i < word book 0 = omega (arith, turn.loop-i-test.true, inv.1) in
+    let object = wide.wide-object.ensures ∙ wide.entry_object.ensures in
+    let read = operation.entry_operation-operation.ensures in
     let fits = foldable book t loop.i loop.book inv.3 l _ _ object read in (
       inv.3.packed,
       fits.0,
@@ -48,39 +48,39 @@ fold_requires c κs =
       (_, named book t loop.i loop.book inv.3 l _ _ object read),
     )
 
-loop_again : tie.Need-loop-preserved invariant_loop decreases_loop
+loop_again : tie.Need-loop-i-preserved invariant_loop decreases_loop
 loop_again c =
-    let read = c.before in
-    let turn = read.before.before in
-    let at_loop = turn.before in
-    let start = at_loop.before.before.before.before in
-    let loop = at_loop.loop in
+    let read = c in
+    let turn = read in
+    let at_loop = turn in
+    let start = at_loop in
+    let loop = at_loop.loop-i in
     let inv = loop.invariant in
     let book = start.args.book.now in
     let t = start.args.transaction in
-    let l : loop.i < word book 0 = omega (arith, turn.loop-test.true, inv.1) in (
+    let l : loop.i < word book 0 = omega (arith, turn.loop-i-test.true, inv.1) in (
       inv.0,
       inv.1,
       omega arith,
       ⊎_elim
           (λ w.
           rw w.10
-          (carrying_own book t loop.i loop.book inv.3 l _ _ (w.3.ensures ∙ w.2.ensures) w.5.ensures
-          (sym read.entry-transaction.ensures ∙ w.0.taken) _ w.7.ensures))
+          (carrying_own book t loop.i loop.book inv.3 l _ _ (w.entry_operation-operation.ensures ∙ w.wide-object.ensures) w.fold.ensures
+          (sym read.entry_transaction.ensures ∙ w.if-entry_transaction-transaction.true) _ w.slice_known-then-entry_transaction-transaction-1.ensures))
           (λ w.
           rw w.1
           (carrying_other book t loop.i loop.book inv.3 l
-          (λ e. w.0.left (read.entry-transaction.ensures ∙ e))))
-          c.if1.branch,
+          (λ e. w.0.left (read.entry_transaction.ensures ∙ e))))
+          c.if-entry_transaction-transaction.branch-raw,
     )
 
 returns : tie.Need-returns invariant_loop decreases_loop
 returns c =
-    let at_loop = c.before in
-    let start = at_loop.before.before.before.before in
-    let inv = at_loop.loop.invariant in
-    carrying_ended start.args.book.now start.args.transaction at_loop.loop.i at_loop.loop.book inv.3
-    (omega (arith, c.loop-test.false, inv.1))
+    let at_loop = c in
+    let start = at_loop in
+    let inv = at_loop.loop-i.invariant in
+    carrying_ended start.args.book.now start.args.transaction at_loop.loop-i.i at_loop.loop-i.book inv.3
+    (omega (arith, c.loop-i-test.false, inv.1))
 
 pub carry_out_spec : {M : Type 1} → statement M
 carry_out_spec =

@@ -7,23 +7,23 @@ use Rattle.ending.proofs.commit.Tie as tie
 
 end_requires : tie.Need-end-requires
 end_requires c κs =
-    let carry = c.before.before.before in
-    let start = carry.before.before.before in
+    let carry = c in
+    let start = carry in
     let book = start.args.book.now in
     let pre = start.requires in
     let t = start.args.transaction in
-    let carried = carried_held book pre.0 t pre.2 pre.3 _ carry.carry-out.ensures in
+    let carried = carried_held book pre.0 t pre.2 pre.3 _ carry.carry_out.ensures in
     (is_packed _ _ carried, pre.1)
 
 returns : tie.Need-returns
 returns c =
-    let end = c.before.before in
-    let carry = end.before.before.before.before in
-    let start = carry.before.before.before in
+    let end = c in
+    let carry = end in
+    let start = carry in
     let book = start.args.book.now in
     let pre = start.requires in
     let t = start.args.transaction in
-    let carried = carried_held book pre.0 t pre.2 pre.3 _ carry.carry-out.ensures in
+    let carried = carried_held book pre.0 t pre.2 pre.3 _ carry.carry_out.ensures in
     then_ended book pre.0 t _ _ carried end.end.ensures
 
 pub commit_spec : {M : Type 1} → statement M

@@ -17,7 +17,7 @@ committed c = c.before.before.before.before
 abbrev start : tie.After-commit → tie.Start
 start c = c.before.before.before.before
 
-abbrev forgotten : tie.After-commit-ready → tie.After-forget
+abbrev forgotten : tie.After-commit_ready → tie.After-forget
 forgotten c = c.before.before.before.before
 
 commit_requires : tie.Need-commit-requires
@@ -26,18 +26,18 @@ commit_requires c κs =
     (start.requires.0.packed, below start, start.requires.0.unsettled.fits, start.requires.0.unsettled.room)
 
 forget_requires : tie.Need-forget-requires
-forget_requires c κs = let start = start c.before.before.before in (start.pre.0.whole, below start)
+forget_requires c κs = let start = start c.before.before.before in (start.requires.0.whole, below start)
 
 part_commit_ready_start : tie.Need-slice-bounds-commit-ready-start
 part_commit_ready_start c =
     let start = start (committed c.before.before) in
     omega (arith, start.pre.3, length-set start.args.list.now 0 start.args.transaction)
 
-commit_ready_requires : tie.Need-commit-ready-requires
+commit_ready_requires : tie.Need-commit_ready-requires
 commit_ready_requires c κs =
     let forget = c.before.before.before in
     let commit = committed forget in
-    let pre = (start commit).pre in
+    let pre = (start commit).requires in
     let args = (start commit).args in
     commit_settles pre.0 pre.1 _ forget.forget.ensures pre.2 commit.commit.ensures _
     (omega (arith, pre.3, rest_length args.list.now args.transaction))
@@ -47,28 +47,28 @@ add_result c =
     let settle = c.before.before.before.before in
     let forget = forgotten settle in
     let commit = committed forget in
-    let pre = (start commit).pre in
+    let pre = (start commit).requires in
     let args = (start commit).args in
     omega (
       arith,
       commit_counted pre.0 pre.1 _ forget.forget.ensures pre.2 commit.commit.ensures args.list.now
-          settle.commit-ready.ensures,
+          settle.commit_ready.ensures,
     )
 
-same_length_2 : tie.Need-same-length-2
+same_length_2 : tie.Need-shape_of-list
 same_length_2 c =
     let args = (start (committed (forgotten c.before.before.before.before))).args in
-    c.before.list.given.1 ∙ length-set args.list.now 0 args.transaction
+    c.list-1.given.1 ∙ length-set args.list.now 0 args.transaction
 
 returns : tie.Need-returns
 returns c =
     let settle = c.before.before.before.before in
     let forget = forgotten settle in
     let commit = committed forget in
-    let pre = (start commit).pre in
+    let pre = (start commit).requires in
     let args = (start commit).args in
     commit_first pre.0 pre.1 _ forget.forget.ensures pre.2 commit.commit.ensures args.list.now
-    settle.commit-ready.ensures (omega (arith, pre.3))
+    settle.commit_ready.ensures (omega (arith, pre.3))
 
 pub commit_active_spec : {M : Type 1} → statement M
 commit_active_spec =

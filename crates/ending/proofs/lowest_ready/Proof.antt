@@ -11,57 +11,57 @@ use Rattle.ending.specs.Laws.Ready.{least_none, least_lower, least_kept, least_n
 use Rattle.ending.proofs.lowest_ready.Statement.{statement}
 use Rattle.ending.proofs.lowest_ready.Tie as tie
 
-abbrev invariant_loop : tie.invariant-loop
+abbrev invariant_loop : tie.invariant-loop-left
 invariant_loop book edges finished lowest₀ rank₀ left₀ lowest rank left = LeastPassed (decode base book) left lowest rank
 
-abbrev decreases_loop : tie.decreases-loop
+abbrev decreases_loop : tie.decreases-loop-left
 decreases_loop book edges finished lowest₀ rank₀ left₀ lowest rank left = left
 
-loop_holds : tie.Need-loop-init invariant_loop decreases_loop
-loop_holds c = least_none _ _ c.before.requires.members
+loop_holds : tie.Need-loop-left-init invariant_loop decreases_loop
+loop_holds c = least_none _ _ c.requires.members
 
 -- The word of one that is left says a rank.
-ranked : (c : tie.After-status-word invariant_loop decreases_loop) → 2 ≤ c.status-word.result
+ranked : (c : tie.After-status_word-status invariant_loop decreases_loop) → 2 ≤ c.status_word-status.result
 ranked c =
-    let at_loop = c.before.before.before in
-    let loop = at_loop.loop in
-    has_rank_lem at_loop.before.before.args.book.now loop.left loop.lowest loop.rank loop.invariant _
-    c.before.lowest.ensures.member _ c.status-word.ensures
+    let at_loop = c in
+    let loop = at_loop.loop-left in
+    has_rank_lem at_loop.args.book.now loop.left loop.lowest loop.rank loop.invariant _
+    c.lowest-transaction.ensures.member _ c.status_word-status.ensures
 
-loop_less : tie.Need-loop-smaller invariant_loop decreases_loop
-loop_less c = rest_less _ _ _ c.without.ensures c.before.before.before.lowest.ensures.member
+loop_less : tie.Need-loop-left-smaller invariant_loop decreases_loop
+loop_less c = rest_less _ _ _ c.without-left.ensures c.lowest-transaction.ensures.member
 
-loop_again : tie.Need-loop-preserved invariant_loop decreases_loop
+loop_again : tie.Need-loop-left-preserved invariant_loop decreases_loop
 loop_again c =
-    let read = c.before.before in
-    let next = read.before in
-    let at_loop = next.before.before in
-    let start = at_loop.before.before in
-    let loop = at_loop.loop in
+    let read = c in
+    let next = read in
+    let at_loop = next in
+    let start = at_loop in
+    let loop = at_loop.loop-left in
     let book = start.args.book.now in
-    let tested = ready_tested start.args.edges.now (decode base book) next.lowest.result start.requires.edges in
+    let tested = ready_tested start.args.edges.now (decode base book) next.lowest-transaction.result start.requires.edges in
     ⊎_elim
     (λ w.
     rw (w.3, w.4)
-    (least_lower book loop.left loop.lowest loop.rank loop.invariant _ next.lowest.ensures.member _
-    read.status-word.ensures _ c.without.ensures w.0.taken
+    (least_lower book loop.left loop.lowest-transaction loop.rank loop.invariant _ next.lowest-transaction.ensures.member _
+    read.status_word-status.ensures _ c.without-left.ensures w.0.taken
     ((tested _ w.1.ensures).0 w.2.taken)))
     (λ w.
     rw (w.1, w.2)
-    (least_kept book loop.left loop.lowest loop.rank loop.invariant _ next.lowest.ensures.member _
-    read.status-word.ensures _ c.without.ensures
+    (least_kept book loop.left loop.lowest-transaction loop.rank loop.invariant _ next.lowest-transaction.ensures.member _
+    read.status_word-status.ensures _ c.without-left.ensures
     (λ lower ready.
     ⊎_elim (λ v. denied (tested _ v.1.ensures) v.2.left ready) (λ v. omega (arith, lower, v.left))
     w.0.came)))
-    c.before.if1.branch
+    c.else-status-rank.branch-raw
 
 returns : tie.Need-returns invariant_loop decreases_loop
 returns c =
-    let at_loop = c.before in
-    let start = at_loop.before.before in
+    let at_loop = c in
+    let start = at_loop in
     let h = start.requires in
     least_named start.args.book.now h.packed h.unsettled.once h.unsettled.gapless _ _ _
-    c.loop-test.false at_loop.loop.invariant
+    c.loop-left-test.false at_loop.loop-left.invariant
 
 pub lowest_ready_spec : {M : Type 1} → statement M
 lowest_ready_spec =

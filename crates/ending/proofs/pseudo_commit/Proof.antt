@@ -5,18 +5,18 @@ use Rattle.ending.specs.Laws.Steps.{rank_few, pseudo_committed_lem}
 use Rattle.ending.proofs.pseudo_commit.Statement.{statement}
 use Rattle.ending.proofs.pseudo_commit.Tie as tie
 
-rank_fits : tie.Need-overflow_add-set-status
+rank_fits : tie.Need-overflow_add-rank
 rank_fits c =
-    let start = c.before.before.before.before in
-    omega (arith, rank_few start.args.book.now _ c.before.next-rank.ensures start.requires.0)
+    let start = c in
+    omega (arith, rank_few start.args.book.now _ c.next_rank-rank.ensures start.requires.0)
 
 returns : tie.Need-returns
 returns c =
-    let written = c.before.before in
-    let ranked = written.before.before in
-    let args = ranked.before.before.before.args in
-    pseudo_committed_lem args.book.now _ ranked.next-rank.ensures args.transaction _
-    written.set-status.ensures
+    let written = c in
+    let ranked = written in
+    let args = ranked.args in
+    pseudo_committed_lem args.book.now _ ranked.next_rank-rank.ensures args.transaction _
+    written.set_status.ensures
 
 pub pseudo_commit_spec : {M : Type 1} → statement M
 pseudo_commit_spec =
