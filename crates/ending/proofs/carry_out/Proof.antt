@@ -64,13 +64,14 @@ loop_again c =
       omega arith,
       ⊎_elim
           (λ w.
-          rw w.10
-          (carrying_own book t loop.i loop.book inv.3 l _ _ (w.entry_operation-operation.ensures ∙ w.wide-object.ensures) w.fold.ensures
-          (sym read.entry_transaction.ensures ∙ w.if-entry_transaction-transaction.true) _ w.slice_known-then-entry_transaction-transaction-1.ensures))
+          rw w.book-is
+          (carrying_own book t loop.i loop.book inv.3 l _ _ (w.wide-object.ensures ∙ w.entry_object.ensures)
+          w.entry_operation-operation.ensures
+          (sym read.entry_transaction.ensures ∙ w.if-entry_transaction-transaction.true) _ w.fold.ensures))
           (λ w.
-          rw w.1
+          rw w.book-is
           (carrying_other book t loop.i loop.book inv.3 l
-          (λ e. w.0.left (read.entry_transaction.ensures ∙ e))))
+          (λ e. w.if-entry_transaction-transaction.false (read.entry_transaction.ensures ∙ e))))
           c.if-entry_transaction-transaction.branch-raw,
     )
 

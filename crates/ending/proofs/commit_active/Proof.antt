@@ -28,10 +28,10 @@ commit_requires c κs =
 forget_requires : tie.Need-forget-requires
 forget_requires c κs = let start = start c.before.before.before in (start.requires.0.whole, below start)
 
-part_commit_ready_start : tie.Need-slice-bounds-commit-ready-start
+part_commit_ready_start : tie.Need-slice_bounds-commit_ready-start
 part_commit_ready_start c =
     let start = start (committed c.before.before) in
-    omega (arith, start.pre.3, length-set start.args.list.now 0 start.args.transaction)
+    omega (arith, start.requires.3, length-set start.args.list.now 0 start.args.transaction)
 
 commit_ready_requires : tie.Need-commit_ready-requires
 commit_ready_requires c κs =

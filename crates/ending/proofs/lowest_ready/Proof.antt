@@ -42,10 +42,10 @@ loop_again c =
     let tested = ready_tested start.args.edges.now (decode base book) next.lowest-transaction.result start.requires.edges in
     ⊎_elim
     (λ w.
-    rw (w.3, w.4)
-    (least_lower book loop.left loop.lowest-transaction loop.rank loop.invariant _ next.lowest-transaction.ensures.member _
-    read.status_word-status.ensures _ c.without-left.ensures w.0.taken
-    ((tested _ w.1.ensures).0 w.2.taken)))
+    rw (w.lowest-is, w.rank-is)
+    (least_lower book loop.false loop.lowest-transaction loop.rank loop.invariant _ next.lowest-transaction.ensures.member _
+    read.status_word-status.ensures _ c.without-left.ensures w.if-status-rank.true
+    ((tested _ w.ready.ensures).0 w.if-ready.true)))
     (λ w.
     rw (w.1, w.2)
     (least_kept book loop.left loop.lowest-transaction loop.rank loop.invariant _ next.lowest-transaction.ensures.member _
@@ -53,7 +53,7 @@ loop_again c =
     (λ lower ready.
     ⊎_elim (λ v. denied (tested _ v.1.ensures) v.2.left ready) (λ v. omega (arith, lower, v.left))
     w.0.came)))
-    c.else-status-rank.branch-raw
+    c.if-status-rank.branch-raw
 
 returns : tie.Need-returns invariant_loop decreases_loop
 returns c =
