@@ -45,7 +45,7 @@ const COLUMNS: usize = pairs::BROAD + 1;
 
 const ITEMS: usize = pairs::BROAD;
 
-// The owners of the entries with one object and key, a set for each column that `KeyColumn` tells, and those with
+// The owners of the entries with one object and key, a set for each column that `key_column` tells, and those with
 // modifies to different values.
 type KeyOwners = [u64; KEY_COLUMNS];
 
