@@ -53,7 +53,7 @@ fn commit(book: &mut [u32], transaction: u32)
     end(book, transaction);
 }
 
-// The pseudo_committed_lem one of lowest rank that depends on nobody.
+// The pseudo-committed one of lowest rank that depends on nobody.
 fn lowest_ready(book: &[u32], edges: &[u64; TRANSACTIONS], finished: u64) -> u32
     requires { Tracked book.now edges.now finished }
     ensures { Names result (LowestReady (decode base book.now)) }
@@ -111,7 +111,7 @@ fn commit_ready(
     }
 }
 
-// An active transaction becomes pseudo_committed_lem, last in the order of finishing.
+// An active transaction becomes pseudo-committed, last in the order of finishing.
 pub fn pseudo_commit(book: &mut [u32], transaction: u32)
     requires { Packed base book.old × (transaction < transaction_count) }
     ensures { book.new ≡ encode base (PseudoCommit transaction (decode base book.old)) }

@@ -10,7 +10,7 @@ ghost use Rattle.protocol.specs.ReplyOf.{reply_of};
 use protocol::Reply;
 
 // Document 000, section 4.2.1: aborted where its finished predecessors and successors meet; else committed where it
-// depends on nobody; else pseudo_committed_lem. Those that then depend on nobody commit too.
+// depends on nobody; else pseudo-committed. Those that then depend on nobody commit too.
 pub fn finish(book: &mut [u32], transaction: u32, list: &mut [u8]) -> Reply
     ensures { served book.new (outcome (reply_of result) list.new [])
         ≡ calls.finish base whether_sound book.old transaction list.old }

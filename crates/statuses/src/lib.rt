@@ -10,7 +10,7 @@ ghost use Rattle.statuses.specs.Statuses.{Noted, Downward, lowered_word};
 
 use bitset::{contains, join, single};
 
-// The words of a status: absent, active, and from this on pseudo_committed_lem, with the rank added.
+// The words of a status: absent, active, and from this on pseudo-committed, with the rank added.
 pub const ABSENT: u32 = 0;
 
 pub const ACTIVE: u32 = 1;
@@ -20,7 +20,7 @@ pub const FIRST_RANK: u32 = 2;
 // How many transactions there are, and so ranks.
 const COUNT: u32 = layout::TRANSACTIONS as u32;
 
-// Who is live, who is pseudo_committed_lem, and whether ranks are 0, 1, 2 and on, once each.
+// Who is live, who is pseudo-committed, and whether ranks are 0, 1, 2 and on, once each.
 #[derive(Drop)]
 pub struct Summary {
     pub live: u64,
@@ -115,7 +115,7 @@ pub fn statuses(book: &[u32]) -> Summary
     }
 }
 
-// How many transactions are pseudo_committed_lem: the rank that the next one gets.
+// How many transactions are pseudo-committed: the rank that the next one gets.
 pub fn next_rank(book: &[u32]) -> u32
     requires { BookLong book.now }
     ensures { result ≡ pseudo_committed_count (decode base book.now) }

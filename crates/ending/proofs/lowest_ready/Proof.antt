@@ -43,16 +43,16 @@ loop_again c =
     ⊎_elim
     (λ w.
     rw (w.lowest-is, w.rank-is)
-    (least_lower book loop.false loop.lowest-transaction loop.rank loop.invariant _ next.lowest-transaction.ensures.member _
+    (least_lower book loop.left loop.lowest loop.rank loop.invariant _ next.lowest-transaction.ensures.member _
     read.status_word-status.ensures _ c.without-left.ensures w.if-status-rank.true
     ((tested _ w.ready.ensures).0 w.if-ready.true)))
     (λ w.
-    rw (w.1, w.2)
-    (least_kept book loop.left loop.lowest-transaction loop.rank loop.invariant _ next.lowest-transaction.ensures.member _
+    rw (w.lowest-is, w.rank-is)
+    (least_kept book loop.left loop.lowest loop.rank loop.invariant _ next.lowest-transaction.ensures.member _
     read.status_word-status.ensures _ c.without-left.ensures
     (λ lower ready.
-    ⊎_elim (λ v. denied (tested _ v.1.ensures) v.2.left ready) (λ v. omega (arith, lower, v.left))
-    w.0.came)))
+    ⊎_elim (λ v. denied (tested _ v.ready.ensures) v.if-ready.false ready) (λ v. omega (arith, lower, v.if-status-rank.false))
+    w.else-status-rank.branch-raw)))
     c.if-status-rank.branch-raw
 
 returns : tie.Need-returns invariant_loop decreases_loop
