@@ -1,5 +1,6 @@
 // Operations that are asked for: entered in the log with their answers; of a batch, also whom they wait for.
 #![tactic(auto)]
+
 ghost use Rattle.std.specs.Prelude.{◌≡◌, true, ◌↔◌, map, ◌<◌, ◌≤◌, ◌/◌, length};
 ghost use Rattle.operations.specs.Operations.{row_limit};
 ghost use Rattle.operations.specs.Operations as model;

@@ -1,5 +1,6 @@
 // Reasons for saying no: for each call the number of the first that applies, 0 where none does.
 #![tactic(auto)]
+
 ghost use Rattle.std.specs.Prelude.{◌≡◌, true, cond, not, ◌||◌, List, [], ◌∷◌, ◌↔◌, ℕ, ◌*◌, ◌%◌, ◌≤◌, eqb, ltb, length, take};
 ghost use Rattle.store.specs.Layout.{base, decode, read_kind, Packed};
 ghost use Rattle.store.specs.Decisions.{whether_sound};

@@ -1,5 +1,6 @@
 // The calls (document 01, "Calls", and 02) but finish and cancel. None asks anything of its arguments.
 #![tactic(auto)]
+
 ghost use Rattle.std.specs.Prelude.{ℕ, ◌+◌, ◌*◌, ◌≡◌, false, [], length, take, drop};
 ghost use Rattle.store.specs.Store.{object_count};
 ghost use Rattle.store.specs.Layout.{BookLong, base, encode, rows_start};
