@@ -20,7 +20,7 @@ pub const CIRCLE: u32 = 4;
 pub const CANCELLED: u32 = 5;
 
 // The numbers of a reply; `specs/Codes` says which reply has which.
-#[derive(Drop)]
+#[derive(Clone, Copy)]
 pub struct Numbers {
     pub refusal: u32,
     pub code: u32,

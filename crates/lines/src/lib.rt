@@ -11,7 +11,7 @@ use protocol::{BATCH, OPERATION_WORDS};
 use text::Number;
 
 // What a line asks for. The kinds of a set up and the operations of a batch stand beside it.
-#[derive(Drop)]
+#[derive(Clone, Copy)]
 pub enum Call {
     SetUp,
     Begin(u32),
@@ -24,7 +24,7 @@ pub enum Call {
     Unread,
 }
 
-#[derive(Drop)]
+#[derive(Clone, Copy)]
 pub struct Line {
     pub call: Call,
     pub kinds: [u8; OBJECTS],

@@ -66,7 +66,7 @@ pub enum Reply {
 }
 
 // What a batch replies: its answers in order, and 0 0 in the places that it doesn't use.
-#[derive(Drop)]
+#[derive(Clone, Copy)]
 pub struct Batched {
     pub reply: Reply,
     pub count: usize,

@@ -1,5 +1,6 @@
 // The record of a served line, from its call and its reply.
 #![tactic(auto)]
+
 ghost use Rattle.std.specs.Prelude.{◌≡◌, true, [], ◌∷◌, ◌++◌, map, ◌*◌, ◌≤◌, min, length, take, drop};
 ghost use Rattle.std.proofs.Math.Option.{none, some};
 ghost use Rattle.operations.specs.Stored.{answer_of};

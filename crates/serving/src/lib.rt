@@ -11,7 +11,7 @@ use operations::Answer;
 use protocol::{Batched, Reply};
 
 // What is said to a line.
-#[derive(Drop)]
+#[derive(Clone, Copy)]
 pub enum Said {
     Unread,
     // a call's reply, and how many bytes of the list are the call's
@@ -21,7 +21,7 @@ pub enum Said {
 }
 
 // All that is told of a line.
-#[derive(Drop)]
+#[derive(Clone, Copy)]
 pub struct Told {
     pub said: Said,
     pub list: [u8; layout::LIST],

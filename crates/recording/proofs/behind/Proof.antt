@@ -7,16 +7,16 @@ use Rattle.journal.specs.Laws.Fronts.{front_first}
 use Rattle.recording.proofs.behind.Statement.{statement}
 use Rattle.recording.proofs.behind.Tie as tie
 
-returns : tie.Need-returns
-returns c = record { answer = λ e. refl; others = λ other. absurd (other c.if1.true) }
+returns : tie.Need-returns-then-told-eq-ANSWERED
+returns c = record { answer = λ e. refl; others = λ other. absurd (other c.if-told-eq-ANSWERED.true) }
 
-returns_2 : tie.Need-returns-2
+returns_2 : tie.Need-returns-else-told-eq-ANSWERED
 returns_2 c =
     let list = c.before.before.before.before.before.before.args.list.now in
     record {
-      answer = λ e. absurd (c.before.before.before.if1.false e);
+      answer = λ e. absurd (c.before.before.before.if-told-eq-ANSWERED.false e);
       others =
-          λ other. ap (front (length list)) c.before.put-bytes.ensures
+          λ other. ap (front (length list)) c.before.put_bytes.ensures
           ∙ front_first list (drop (length list) (replicate 64 0));
     }
 

@@ -12,63 +12,63 @@ use Rattle.recording.proofs.called.Tie as tie
 operations_long : (c : tie.Start) → length c.args.asked.operations ≡ 64
 operations_long c = search rules
 
-words_there : tie.Need-array-share-prefix-operations
+words_there : tie.Need-slice_bounds-operations-end
 words_there c =
-    let start = c.before.before.before.before.before in
-    omega (arith, operations_long start, start.requires, ap words_of c.before.call3.given.1)
+    let start = c in
+    omega (arith, operations_long c.before.before.before, start.requires, ap words_of c.in-Batch.is)
 
-words : tie.Need-slice-aggregate-of-batch
+words : tie.Need-slice_bounds-of_batch-end
 words c =
-    let start = c.before.before.before.before.before.before in
-    sym (length-take-le c.before.before.call3.given.0.1.0 start.args.asked.operations
+    let start = c in
+    sym (length-take-le c.in-Batch.words start.args.asked.operations
     (words_there c.before))
 
-of_batch_requires : tie.Need-of-batch-requires
+of_batch_requires : tie.Need-of_batch-requires
 of_batch_requires c κs =
-    let start = c.before.before.before.before.before.before in
-    omega (arith, words c, start.requires, ap words_of c.before.before.call3.given.1)
+    let start = c in
+    omega (arith, words c, start.requires, ap words_of c.in-Batch.is)
 
-set_up_lem : tie.Need-returns
+set_up_lem : tie.Need-returns-in-SetUp
 set_up_lem c =
-    let a = c.before.before.before.before.before.args.asked in
-    let part = c.of-set-up in
-    called_as a.kinds a.operations c.before.enum_told.given.1 part.result part.ensures
+    let a = c.args.asked in
+    let part = c.of_set_up in
+    called_as a.kinds a.operations c.in-SetUp.is part.result part.ensures
 
-begun : tie.Need-returns-2
+begun : tie.Need-returns-in-Begin
 begun c =
-    let a = c.before.before.before.before.before.before.args.asked in
-    let part = c.of-transaction in
-    called_as a.kinds a.operations c.before.before.call.given.1 part.result part.ensures
+    let a = c.args.asked in
+    let part = c.of_transaction in
+    called_as a.kinds a.operations c.in-Begin.is part.result part.ensures
 
-operated : tie.Need-returns-3
+operated : tie.Need-returns-in-Operate
 operated c =
-    let a = c.before.before.before.before.before.before.args.asked in
-    let part = c.of-operation in
-    called_as a.kinds a.operations c.before.before.call2.given.1 part.result part.ensures
+    let a = c.args.asked in
+    let part = c.of_operation in
+    called_as a.kinds a.operations c.in-Operate.is part.result part.ensures
 
-batch : tie.Need-returns-4
+batch : tie.Need-returns-in-Batch
 batch c =
-    let a = c.before.before.before.before.before.before.before.args.asked in
-    let part = c.of-batch in
-    called_as a.kinds a.operations c.before.before.before.call3.given.1 part.result part.ensures
+    let a = c.args.asked in
+    let part = c.of_batch in
+    called_as a.kinds a.operations c.in-Batch.is part.result part.ensures
 
-finished : tie.Need-returns-5
+finished : tie.Need-returns-in-Finish
 finished c =
-    let a = c.before.before.before.before.before.before.args.asked in
-    let part = c.of-transaction2 in
-    called_as a.kinds a.operations c.before.before.call4.given.1 part.result part.ensures
+    let a = c.args.asked in
+    let part = c.of_transaction-in-Finish in
+    called_as a.kinds a.operations c.in-Finish.is part.result part.ensures
 
-cancelled : tie.Need-returns-6
+cancelled : tie.Need-returns-in-Cancel
 cancelled c =
-    let a = c.before.before.before.before.before.before.args.asked in
-    let part = c.of-transaction3 in
-    called_as a.kinds a.operations c.before.before.call5.given.1 part.result part.ensures
+    let a = c.args.asked in
+    let part = c.of_transaction-in-Cancel in
+    called_as a.kinds a.operations c.in-Cancel.is part.result part.ensures
 
-no_call : tie.Need-returns-7
+no_call : tie.Need-returns-in-Unread
 no_call c =
-    let a = c.before.before.before.before.before.args.asked in
+    let a = c.args.asked in
     let part = c.empty in
-    called_as a.kinds a.operations c.before.enum-told2.given.1 part.result part.ensures
+    called_as a.kinds a.operations c.in-Unread.is part.result part.ensures
 
 pub called_spec : {M : Type 1} → statement M
 called_spec =

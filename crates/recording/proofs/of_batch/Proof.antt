@@ -15,7 +15,7 @@ returns c =
       letter = said.0;
       operations = said.1;
       arguments =
-          ap (front (length (a.transaction ∷ a.operations.now))) said.2 ∙ c.before.batch-arguments.ensures;
+          ap (front (length (a.transaction ∷ a.operations.now))) said.2 ∙ c.before.batch_arguments.ensures;
     }
 
 pub of_batch_spec : {M : Type 1} → statement M

@@ -9,13 +9,13 @@ use Rattle.recording.proofs.of_set_up.Tie as tie
 
 returns : tie.Need-returns
 returns c =
-    let kinds = c.before.before.before.before.before.args.t1 in
+    let kinds = c.args.kinds in
     let said = c.named.ensures in
     record {
       letter = said.0;
       operations = said.1;
       arguments =
-          ap (front (length kinds)) (said.2 ∙ c.before.before.put-bytes.ensures)
+          ap (front (length kinds)) (said.2 ∙ c.put_bytes.ensures)
           ∙ front_first kinds (drop (length kinds) (replicate 65 0));
     }
 

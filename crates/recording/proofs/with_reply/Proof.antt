@@ -6,10 +6,10 @@ use lib.Dec.{eqb}
 use Rattle.recording.proofs.with_reply.Statement.{statement}
 use Rattle.recording.proofs.with_reply.Tie as tie
 
-returns : tie.Need-returns
+returns : tie.Need-returns-then-told-eq-ACCEPTED
 returns c =
     record {
-      is = sym (ap (λ (b : Bool). b && not (eqb c.before.args.call.letter 0)) (eq-eqb _ 0 c.if1.true));
+      is = sym (ap (λ (b : Bool). b && not (eqb c.before.args.call.letter 0)) (eq-eqb _ 0 c.if-told-eq-ACCEPTED.true));
       letter = refl;
       operations = refl;
       arguments = refl;
@@ -19,9 +19,9 @@ returns c =
       numbers = refl;
     }
 
-returns_2 : tie.Need-returns-2
+returns_2 : tie.Need-returns-else-told-eq-ACCEPTED
 returns_2 c =
-    let no = ne_eqb _ 0 c.if1.false in
+    let no = ne_eqb _ 0 c.if-told-eq-ACCEPTED.false in
     record {
       is = no ∙ sym (ap (λ (b : Bool). b && not (eqb c.before.args.call.letter 0)) no);
       letter = refl;
