@@ -34,7 +34,7 @@ abbrev pub ContentsReached : List ℕ → History → List ℕ → Type 0
 ContentsReached kinds h book =
     (o : ℕ) → (word kinds o ≡ 0 → ⊥) → (desk (contents o) book).outcome ≡ written (committed_contents h o)
 
--- 3. Whichever live transactions are dropped, active or pseudo_committed_lem: once the committed are served, serving the
+-- 3. Whichever live transactions are dropped, active or pseudo-committed: once the committed are served, serving the
 -- operations of the others in the order answered gives each the answer that it was given.
 abbrev pub NoAnswerAltered : History → Type 0
 NoAnswerAltered h = (dropped : ℕ → Bool) → Unaltered (after_dropping dropped h)

@@ -1,5 +1,5 @@
 -- What holds of the operations and the pair rules, for every kind of object, every operation and argument, every
--- well_formed state of any size, and any key reduction.
+-- well-formed state of any size, and any key reduction.
 use Rattle.std.specs.Prelude.{ℕ, ◌+◌, ◌*◌, ◌^◌, ◌≤◌, ◌<◌, ◌≡◌, refl, ◌↔◌, Bool, true, false, not, List, [], ◌∷◌, map, length}
 use Rattle.std.proofs.Common.{ap, arith}
 use Rattle.std.proofs.Math.Option.{some}

@@ -35,7 +35,7 @@ module _ (s : Store) (t : ℕ) where
 -- and 3 on 4 fit the table. Each has a stack of its own here: at which object one stands makes no difference to the
 -- sets. They are those that the definitions give. Where the table has others:
 -- - PRED(T3) is printed as {T1}; T2 and T4 depend on T3 too, through T1.
--- - T5 is printed as pseudo_committed_lem. It depends on nobody, and so commits at once, and is not in SUCC(T3).
+-- - T5 is printed as pseudo-committed. It depends on nobody, and so commits at once, and is not in SUCC(T3).
 -- - The second phase, in which object managers bring their sets up to date, has no counterpart: the desk keeps no sets,
 --   and gathers them anew at each attempt. So gathered, they are those printed for T4 and T1 after T2's attempt.
 

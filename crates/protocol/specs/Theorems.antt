@@ -450,7 +450,7 @@ module _ (w : List ℕ) (t : ℕ) (list : List ℕ) (accepted : end_reason base 
   ending = finish base whether_sound w t list
 
   -- It is cancelled for a circle exactly where it lies on one, of any length, whose other members are all
-  -- pseudo_committed_lem;
+  -- pseudo-committed;
   pub finish_circle : ((n : ℕ) × (ending.outcome.reply ≡ circle n))
       ↔ Leads (DependsOn before.log) (PseudoCommitted before) t t
   finish_circle =
@@ -466,7 +466,7 @@ module _ (w : List ℕ) (t : ℕ) (list : List ℕ) (accepted : end_reason base 
   pub finish_committed : ((n : ℕ) × (ending.outcome.reply ≡ committed n)) ↔ Ready before.log t
   finish_committed = rw (protocol.finishing w t list accepted) (protocol.committed_exactly before t list)
 
-  -- it is pseudo_committed_lem exactly where they stay apart and it depends on somebody;
+  -- it is pseudo-committed exactly where they stay apart and it depends on somebody;
   pub finish_finished : (ending.outcome.reply ≡ finished)
       ↔ ((Meet (PRED before t) (SUCC before t) → ⊥) × ((u : ℕ) × DependsOn before.log t u))
   finish_finished =
@@ -496,7 +496,7 @@ module _ (w : List ℕ) (t : ℕ) (list : List ℕ) (accepted : end_reason base 
 
 -- Of a store in which transactions may be ready, as one that has ended leaves it.
 module _ (s : Store) (r : Representable base s) (h : Unsettled base s) where
-  -- The pseudo_committed_lem one of lowest rank that depends on nobody commits, and so on,
+  -- The pseudo-committed one of lowest rank that depends on nobody commits, and so on,
   pub commits_lowest : (t : ℕ) → LowestReady s t
       → ((settled_all s).store ≡ (settled_all (commit t s)).store)
       × ((settled_all s).committed ≡ t ∷ (settled_all (commit t s)).committed)
@@ -511,7 +511,7 @@ module _ (s : Store) (r : Representable base s) (h : Unsettled base s) where
       let e = settled_end s ((none_ready s r.statuses h.once h.gapless).1 none) in
       (ap (λ (x : Settlement). x.store) e, ap (λ (x : Settlement). x.committed) e)
 
-  -- So a pseudo_committed_lem one commits exactly where no way of dependencies leads from it to an active one;
+  -- So a pseudo-committed one commits exactly where no way of dependencies leads from it to an active one;
   pub settles_exactly : (u : ℕ) → PseudoCommitted s u
       → Among u (settled_all s).committed
       ↔ (((v : ℕ) × Active s v × Leads (DependsOn s.log) (λ c. Unit {0}) u v) → ⊥)
@@ -521,7 +521,7 @@ module _ (s : Store) (r : Representable base s) (h : Unsettled base s) where
   pub settles_only : (u : ℕ) → Among u (settled_all s).committed → PseudoCommitted s u
   settles_only = (commits.all_commits s r h).only
 
-  -- one that does not commit stays pseudo_committed_lem,
+  -- one that does not commit stays pseudo-committed,
   pub never_aborted : (u : ℕ) → PseudoCommitted s u
       → Among u (settled_all s).committed ⊎ PseudoCommitted (settled_all s).store u
   never_aborted = (commits.all_commits s r h).kept
@@ -539,7 +539,7 @@ module _ (w : List ℕ) (t : ℕ) (list : List ℕ) (accepted : end_reason base 
   left = concluding.concludes w t list accepted n r told call
 
   -- At the list's front stand exactly those that commit: the transaction itself, where it does, and each
-  -- pseudo_committed_lem one from which, once the transaction's entries are out of the log, no way of dependencies leads to
+  -- pseudo-committed one from which, once the transaction's entries are out of the log, no way of dependencies leads to
   -- another active one.
   pub commits_exactly : (u : ℕ)
       → Among u (take n r.outcome.list)
@@ -549,7 +549,7 @@ module _ (w : List ℕ) (t : ℕ) (list : List ℕ) (accepted : end_reason base 
       × Leads (DependsOn (without t (decode base w).log)) (λ c. Unit {0}) u v) → ⊥)))
   commits_exactly = concluding.commits_exactly (decode base w) t list r n left
 
-  -- The other pseudo_committed_lem ones stay so, and the other active ones.
+  -- The other pseudo-committed ones stay so, and the other active ones.
   pub stay_exactly : (u : ℕ)
       → PseudoCommitted (decode base r.book) u
       ↔ (PseudoCommitted (decode base w) u × (Among u (take n r.outcome.list) → ⊥))
@@ -612,7 +612,7 @@ set_up_sound w kinds accepted =
 pub sound_kept : (call : Call) (w : List ℕ) → Sound base w → Sound base (desk call w).book
 sound_kept = kept.sound_kept whether_sound
 
--- and when no transaction is active afterwards, none is left pseudo_committed_lem.
+-- and when no transaction is active afterwards, none is left pseudo-committed.
 pub none_left_finished : (call : Call) (w : List ℕ) → Sound base w
     → ((t : ℕ) → Active (decode base (desk call w).book) t → ⊥)
     → (t : ℕ) → PseudoCommitted (decode base (desk call w).book) t → ⊥

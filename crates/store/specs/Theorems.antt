@@ -60,7 +60,7 @@ pub cycle_any_length : (s : Store) → length s.statuses ≡ 64 → (t : ℕ) �
     → OnCycle s t ↔ Leads (DependsOn s.log) (PseudoCommitted s) t t
 cycle_any_length = cycles.cycle_any_length
 
--- Document 000, section 4.2.1, formulas i) and ii): in PRED and SUCC are the near pseudo_committed_lem ones and those in
+-- Document 000, section 4.2.1, formulas i) and ii): in PRED and SUCC are the near pseudo-committed ones and those in
 -- theirs; t itself is left out.
 pub pred_from_near : (s : Store) (t u : ℕ)
     → PRED s t u
@@ -72,7 +72,7 @@ pub succ_from_near : (s : Store) (t u : ℕ)
     ↔ ((u ≡ t → ⊥) × ((n : ℕ) × PseudoCommitted s n × DependsOn s.log t n × ((u ≡ n) ⊎ SUCC s n u)))
 succ_from_near s = successor_from_near (DependsOn s.log) (PseudoCommitted s)
 
--- Its theorem 2: a transaction lies on a cycle whose other members are all pseudo_committed_lem exactly where the two meet,
+-- Its theorem 2: a transaction lies on a cycle whose other members are all pseudo-committed exactly where the two meet,
 pub cycle_met : (s : Store) (t : ℕ)
     → Leads (DependsOn s.log) (PseudoCommitted s) t t ↔ Meet (PRED s t) (SUCC s t)
 cycle_met s t = meets_on_cycle (DependsOn s.log) (PseudoCommitted s) t (λ d. d.0 refl)

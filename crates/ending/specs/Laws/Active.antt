@@ -48,7 +48,7 @@ itself_first r (x ∷ list) t book last count l (e, f, g) =
 
 -- ---- What is left to settle
 
--- An active one is not in the set of the pseudo_committed_lem ones.
+-- An active one is not in the set of the pseudo-committed ones.
 not_member : {w sets : List ℕ} {finished : ℕ} → Tracked w sets finished → (t : ℕ) → Active (decode base w) t
     → (u : ℕ) → In finished u ↔ (In finished u × (u ≡ t → ⊥))
 not_member {w} h t a u = (λ m. (m, active_apart (decode base w) t u a ((h.members u).0 m)), λ m. m.0)

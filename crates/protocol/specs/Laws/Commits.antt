@@ -120,7 +120,7 @@ module _ (s : Store) (t : ℕ) (h : Unsettled base s) where
 
 -- ---- The commits of one call
 
--- What some commits of pseudo_committed_lem transactions leave of a store: they carry the entries of those that committed,
+-- What some commits of pseudo-committed transactions leave of a store: they carry the entries of those that committed,
 -- and no others.
 pub record Settles (s : Store) (r : Settlement) : Type 0 where
   pub only : (u : ℕ) → Among u r.committed → PseudoCommitted s u

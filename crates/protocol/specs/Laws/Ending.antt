@@ -184,7 +184,7 @@ lowered_ranked out active = Iff.rfl
 lowered_ranked out (pseudo_committed rank) = (λ p. (rank, refl), λ p. (_, refl))
 
 -- A store that the transaction leaves when it ends, by abort or by commit: without its entries, and the others live,
--- active or pseudo_committed_lem as before.
+-- active or pseudo-committed as before.
 pub record Left (s : Store) (t : ℕ) (x : Store) : Type 0 where
   pub log : x.log ≡ without t s.log
   pub kinds : (o : ℕ) → (object_of x o).kind ≡ (object_of s o).kind

@@ -1,4 +1,4 @@
--- Set up, begin, an operation entered and a transaction pseudo_committed_lem each leave a sound store.
+-- Set up, begin, an operation entered and a transaction pseudo-committed each leave a sound store.
 use Rattle.std.specs.Prelude.{ℕ, zero, suc, ◌+◌, ◌≤◌, ◌<◌, ◌≡◌, refl, Bool, true, false, cond, ◌↔◌, ◌⊎◌, List, [], ◌∷◌, ◌++◌, map, length, get_or, set, replicate}
 use Rattle.std.proofs.Common.{sym, ap, ◌∙◌, subst, inl, inr, ⊎_elim, append-nil, arith, eq-eqb, ne_eqb}
 use Rattle.std.proofs.Math.Option.{none, some, some-injective}

@@ -1,4 +1,4 @@
--- Ranks are 0, 1, 2 and on, as many as there are pseudo_committed_lem transactions, and stay so when one has ended.
+-- Ranks are 0, 1, 2 and on, as many as there are pseudo-committed transactions, and stay so when one has ended.
 use Rattle.std.specs.Prelude.{ℕ, zero, suc, ◌+◌, ◌-◌, ◌<◌, ◌≤◌, ◌≡◌, refl, true, false, cond, ◌↔◌, List, [], ◌∷◌, map, ltb, length, get_or, set}
 use Rattle.std.proofs.Common.{sym, ap, ◌∙◌, not-suc-le-zero, lt_of_not-le, arith, ltb-true, ltb-false, lt-ltb, le-ltb}
 use Rattle.operations.specs.Laws.Cases.{split, same}
@@ -145,7 +145,7 @@ closed_any P s p closed absent = p
 closed_any P s p closed active = p
 closed_any P s p closed (pseudo_committed out) = closed out
 
--- ---- How many are pseudo_committed_lem
+-- ---- How many are pseudo-committed
 
 count_lowered : (out : ℕ) (l : List Status) → pseudo_committed_in (map (lowered out) l) ≡ pseudo_committed_in l
 count_lowered out [] = refl
@@ -232,7 +232,7 @@ pub rank_below : (s : Store) → length s.statuses ≡ 64 → OnceEach s → Wit
     → status_of s t ≡ pseudo_committed r → r < 64
 rank_below s l once gapless t r e = omega (arith, (ranks_counted s once gapless r).1 (t, e), count_within s.statuses)
 
--- One is active, so not all are pseudo_committed_lem.
+-- One is active, so not all are pseudo-committed.
 fewer : (l : List Status) (t : ℕ) → get_or l t absent ≡ active → pseudo_committed_in l < length l
 fewer [] t e = absurd (omega (arith, ap status_word e))
 fewer (absent ∷ l) t e = omega (arith, count_within l)

@@ -1,4 +1,4 @@
--- The pseudo_committed_lem transaction of lowest rank that depends on nobody, and the commits until there is none.
+-- The pseudo-committed transaction of lowest rank that depends on nobody, and the commits until there is none.
 use Rattle.std.specs.Prelude.{ℕ, zero, suc, ◌<◌, ◌≤◌, ◌≡◌, refl, Bool, true, false, cond, ◌&&◌, ◌↔◌, List, [], length, get_or}
 use Rattle.std.proofs.Common.{sym, ap, ◌∙◌, subst, not-suc-le-zero, le_of_suc-le-suc, arith, eqb-true, eq-eqb}
 use Rattle.std.proofs.lemmas.Bool.{false≢true}
@@ -148,7 +148,7 @@ module _ (s : Store) where
 
 -- ---- The commits until none is ready
 
--- One that commits leaves one pseudo_committed_lem transaction less.
+-- One that commits leaves one pseudo-committed transaction less.
 pub count_committed : (s : Store) (t : ℕ) → PseudoCommitted s t
     → suc (pseudo_committed_count (commit t s)) ≡ pseudo_committed_count s
 count_committed s t p =

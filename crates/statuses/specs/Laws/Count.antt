@@ -1,4 +1,4 @@
--- How many of the first transactions are pseudo_committed_lem.
+-- How many of the first transactions are pseudo-committed.
 use Rattle.std.specs.Prelude.{ℕ, ◌+◌, ◌<◌, ◌≤◌, ◌≡◌, refl, List, [], ◌∷◌, ◌++◌}
 use Rattle.std.proofs.Math.Path.{ap}
 use Rattle.std.proofs.Common.{add-one, arith}

@@ -1,4 +1,4 @@
--- Cycles of a store's dependencies, and ways from pseudo_committed_lem transactions to active ones.
+-- Cycles of a store's dependencies, and ways from pseudo-committed transactions to active ones.
 use Rattle.std.specs.Prelude.{ℕ, suc, ◌<◌, ◌≡◌, ◌↔◌, length}
 use Rattle.std.proofs.Common.{inl, inr}
 use Rattle.store.specs.Store.{Store, status_of, Active, PseudoCommitted}
@@ -47,6 +47,6 @@ module _ (s : Store) (sized : length s.statuses ≡ 64) where
         (widened (DependsOn s.log) Stuck (PseudoCommitted s) (λ (y : ℕ) (q : Stuck y). q.0) 64 c c w))
         u (p, n)
 
-    -- So where none is active, none is left pseudo_committed_lem.
+    -- So where none is active, none is left pseudo-committed.
     pub none_left : ((t : ℕ) → Active s t → ⊥) → (t : ℕ) → PseudoCommitted s t → ⊥
     none_left closed t p = leads_to_active t p (λ h. closed h.0 h.1)
