@@ -3,7 +3,7 @@
 #![tactic(auto)]
 ghost use Rattle.std.specs.Prelude.{◌≡◌, []};
 ghost use Rattle.store.specs.Layout.{base};
-ghost use Rattle.store.specs.Decisions.{whether_sound};
+ghost use Rattle.store.proofs.Decisions.{whether_sound};
 ghost use Rattle.protocol.specs.Calls as calls;
 ghost use Rattle.capi.specs.Exported.{accepted, operated, ended, exported, written, written_answers, Handed};
 

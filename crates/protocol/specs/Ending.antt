@@ -4,7 +4,7 @@ use Rattle.std.proofs.Math.Bool.{decide}
 use Rattle.std.proofs.Math.Option.{Option, none, some}
 use Rattle.store.specs.Store.{transaction_count, Status, absent, active, pseudo_committed, Logged, Store, status_of}
 use Rattle.store.specs.Store.{pseudo_committed_count}
-use Rattle.store.specs.Decisions.{whether_ready}
+use Rattle.store.proofs.Decisions.{whether_ready}
 use Rattle.store.specs.Steps.{dropped, folded, with_status, closed_up}
 
 -- The transaction's entries carried into the rows, in order.

@@ -3,8 +3,8 @@ use Prim.Native.Nat.{ℕ, ◌<◌}
 use mathlib.Core.Path.{sym, ap, ◌∙◌, subst}
 use borrow.Author.Rules.{rules}
 use Rattle.store.specs.Layout.{base, decode, encode, entry_at, word}
-use Rattle.store.specs.Laws.Lists.{length_tabulate}
-use Rattle.store.specs.Laws.Reading.{kind_below}
+use Rattle.store.proofs.Laws.Lists.{length_tabulate}
+use Rattle.store.proofs.Laws.Reading.{kind_below}
 use Rattle.answers.specs.Answers.{Requested}
 use Rattle.answers.specs.Laws.Requests.{answer_to_lem}
 use Rattle.waits.specs.Laws.Rules.{named}

@@ -8,7 +8,7 @@ use lib.ListN.{length}
 use Rattle.store.specs.Layout.{base}
 use Rattle.store.specs.Soundness.{Sound}
 use Rattle.protocol.specs.Calls.{requested}
-use Rattle.protocol.specs.Laws.Lent.{lent_at}
+use Rattle.protocol.proofs.Laws.Lent.{lent_at}
 use Rattle.batches.specs.Batches.{Carried}
 use Rattle.batches.specs.Laws.Carrying.{carried_same, carried_of}
 use Rattle.batches.specs.Laws.Entering.{ran, numbered_here, Entering, entering_start, entering_long}

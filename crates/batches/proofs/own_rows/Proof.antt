@@ -5,7 +5,7 @@ use mathlib.Core.Logic.{⊎_elim}
 use native.Mathlib.Omega.{arith}
 use borrow.Author.Rules.{rules}
 use lib.ListN.{length}
-use Rattle.operations.specs.Laws.Cases.{denied}
+use Rattle.operations.proofs.Laws.Cases.{denied}
 use Rattle.replay.specs.Replay.{rows_of}
 use Rattle.store.specs.Layout.{word, object_start, rows_at}
 use Rattle.answers.specs.Laws.Entries.{EntryOperation}

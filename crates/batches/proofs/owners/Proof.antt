@@ -5,7 +5,7 @@ use borrow.Author.Rules.{rules}
 use lib.ListN.{length}
 use Rattle.store.specs.Layout.{base}
 use Rattle.protocol.specs.Calls.{requested}
-use Rattle.protocol.specs.Laws.Lent.{lent_at}
+use Rattle.protocol.proofs.Laws.Lent.{lent_at}
 use Rattle.batches.specs.Laws.Entering.{numbered_here, scanned_here, AwaitsLeft, awaits_start, awaits_turn}
 use Rattle.batches.specs.Laws.Entering.{awaits_end}
 use Rattle.batches.proofs.owners.Statement.{statement}

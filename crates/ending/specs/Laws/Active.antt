@@ -7,12 +7,12 @@ use Rattle.layout.specs.Laws.{tail_part}
 use Rattle.store.specs.Store.{Store, Active, pseudo_committed_count}
 use Rattle.store.specs.Dependency.{Ready}
 use Rattle.store.specs.Layout.{base, decode, encode, status_word}
-use Rattle.store.specs.Theorems.{representable}
-use Rattle.store.specs.Laws.Reading.{live_below}
-use Rattle.store.specs.Laws.Statuses.{active_apart}
+use Rattle.store.proofs.Theorems.{representable}
+use Rattle.store.proofs.Laws.Reading.{live_below}
+use Rattle.store.proofs.Laws.Statuses.{active_apart}
 use Rattle.protocol.specs.Ending.{ended, commit, Settlement, committed_first, settled_all}
-use Rattle.protocol.specs.Laws.Ranks.{ended_count}
-use Rattle.protocol.specs.Laws.Settling.{commit_count, settled_few}
+use Rattle.protocol.proofs.Laws.Ranks.{ended_count}
+use Rattle.protocol.proofs.Laws.Settling.{commit_count, settled_few}
 use Rattle.ending.specs.Ending.{Tracked, Forgotten, Concluded}
 use Rattle.ending.specs.Laws.Settling.{ended_tracked, commit_tracked}
 

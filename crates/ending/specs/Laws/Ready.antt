@@ -1,7 +1,7 @@
 -- The pseudo-committed transaction of lowest rank that depends on nobody, found among all of them in turn.
 use Rattle.std.specs.Prelude.{ℕ, ◌+◌, ◌-◌, ◌<◌, ◌≤◌, ◌≡◌, refl, Bool, true, not, ◌&&◌, ◌↔◌, ◌⊎◌, List, eqb, ltb}
 use Rattle.std.proofs.Common.{sym, ap, ◌∙◌, subst, inl, inr, ⊎_elim, arith, ltb-true, ltb-false}
-use Rattle.operations.specs.Laws.Cases.{split, by_key}
+use Rattle.operations.proofs.Laws.Cases.{split, by_key}
 use Rattle.bitset.specs.Bitset.{has, In, Members, Holds, Represents}
 use Rattle.bitset.specs.Laws.{nobody_in, in_rest}
 use Rattle.graph.specs.Edges.{EdgeIn}
@@ -9,12 +9,12 @@ use Rattle.store.specs.Store.{pseudo_committed, Store, status_of, PseudoCommitte
 use Rattle.store.specs.Dependency.{DependsOn, Ready}
 use Rattle.store.specs.Layout.{Packed, base, decode, status_word, word}
 use Rattle.store.specs.Soundness.{OnceEach, WithoutGaps}
-use Rattle.store.specs.Theorems.{representable}
-use Rattle.store.specs.Laws.Encoding.{status_written}
-use Rattle.store.specs.Laws.Reading.{status_by_word}
+use Rattle.store.proofs.Theorems.{representable}
+use Rattle.store.proofs.Laws.Encoding.{status_written}
+use Rattle.store.proofs.Laws.Reading.{status_by_word}
 use Rattle.protocol.specs.Ending.{lowest_ready}
-use Rattle.protocol.specs.Laws.Ranks.{rank_below}
-use Rattle.protocol.specs.Laws.Settling.{lowest_found, none_ready}
+use Rattle.protocol.proofs.Laws.Ranks.{rank_below}
+use Rattle.protocol.proofs.Laws.Settling.{lowest_found, none_ready}
 use Rattle.statuses.specs.Laws.Words.{finished_read, finished_below}
 use Rattle.ending.specs.Nobody.{Names}
 

@@ -3,9 +3,9 @@ use mathlib.Core.Path.{refl, sym, ◌∙◌}
 use native.Mathlib.Omega.{arith}
 use borrow.Author.Rules.{rules}
 use Rattle.store.specs.Layout.{base}
-use Rattle.store.specs.Decisions.{whether_sound}
+use Rattle.store.proofs.Decisions.{whether_sound}
 use Rattle.protocol.specs.Terms.{EndAccepted}
-use Rattle.protocol.specs.Laws.Reasons.{end_accepted}
+use Rattle.protocol.proofs.Laws.Reasons.{end_accepted}
 use Rattle.finishing.specs.Laws.Ending.{cancel_refused, may_abort, aborted_few, cancelled}
 use Rattle.finishing.proofs.cancel.Statement.{statement}
 use Rattle.finishing.proofs.cancel.Tie as tie

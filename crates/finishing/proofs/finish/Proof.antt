@@ -4,13 +4,13 @@ use mathlib.Core.Bool.{true}
 use mathlib.Core.Logic.{◌↔◌}
 use native.Mathlib.Omega.{arith}
 use borrow.Author.Rules.{rules}
-use Rattle.operations.specs.Laws.Cases.{denied}
+use Rattle.operations.proofs.Laws.Cases.{denied}
 use Rattle.store.specs.Store.{Store}
 use Rattle.store.specs.Dependency.{Ready, OnCycle}
 use Rattle.store.specs.Layout.{base, decode}
-use Rattle.store.specs.Decisions.{whether_sound}
+use Rattle.store.proofs.Decisions.{whether_sound}
 use Rattle.protocol.specs.Terms.{EndAccepted}
-use Rattle.protocol.specs.Laws.Reasons.{end_accepted}
+use Rattle.protocol.proofs.Laws.Reasons.{end_accepted}
 use Rattle.finishing.specs.Laws.Ending.{finish_refused, may_abort, may_commit, circle_tested}
 use Rattle.finishing.specs.Laws.Ending.{readiness_tested, aborted_few, committed_few}
 use Rattle.finishing.specs.Laws.Ending.{circle, committed, finished}

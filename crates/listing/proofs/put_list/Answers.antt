@@ -1,6 +1,6 @@
 -- `listing::put_list`: the word, then the numbers.
 use native.Mathlib.Omega.{arith}
-use Rattle.text.specs.Laws.Putting.{then}
+use Rattle.text.proofs.Laws.Putting.{then}
 use Rattle.listing.proofs.put_list.Goals as goal
 
 pub returns : goal.returns

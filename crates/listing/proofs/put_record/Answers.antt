@@ -1,8 +1,8 @@
 -- `listing::put_record`: the letter, the arguments, a tab, the reply and a line feed.
 use native.Mathlib.Omega.{arith}
 use lib.ListN.{length-set}
-use Rattle.listing.specs.Laws.Shapes.{few_arguments, short}
-use Rattle.listing.specs.Laws.Lines.{line_put}
+use Rattle.listing.proofs.Laws.Shapes.{few_arguments, short}
+use Rattle.listing.proofs.Laws.Lines.{line_put}
 use Rattle.listing.proofs.put_record.Goals as goal
 
 pub argument_count-count-requires : goal.argument_count-count-requires

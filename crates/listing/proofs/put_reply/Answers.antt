@@ -2,8 +2,8 @@
 use mathlib.Core.Path.{sym, ◌∙◌}
 use native.Mathlib.Omega.{arith}
 use Rattle.letters.specs.Laws.{few_answers}
-use Rattle.listing.specs.Laws.Replying.{says_ok, says_wait, lists_answers, lists_ended, replied}
-use Rattle.listing.specs.Laws.Shapes.{few_arguments, few_listed}
+use Rattle.listing.proofs.Laws.Replying.{says_ok, says_wait, lists_answers, lists_ended, replied}
+use Rattle.listing.proofs.Laws.Shapes.{few_arguments, few_listed}
 use Rattle.listing.proofs.put_reply.Goals as goal
 
 -- ---- What each case asks for

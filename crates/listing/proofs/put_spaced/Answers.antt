@@ -1,6 +1,6 @@
 -- `listing::put_spaced`: the numbers passed are put.
 use native.Mathlib.Omega.{arith}
-use Rattle.listing.specs.Laws.Spacing.{start, kept, next_fits, turn, whole}
+use Rattle.listing.proofs.Laws.Spacing.{start, kept, next_fits, turn, whole}
 use Rattle.listing.proofs.put_spaced.Goals as goal
 
 pub loop-i-init : goal.loop-i-init

@@ -1,6 +1,6 @@
 -- `listing::put_spaced`: the numbers passed are put.
 use Prim.Native.Nat.{◌-◌, ◌≤◌}
-use Rattle.listing.specs.Laws.Spacing.{Spaced}
+use Rattle.listing.proofs.Laws.Spacing.{Spaced}
 use Rattle.listing.proofs.put_spaced.Given as goal
 
 abbrev pub invariant-loop-i : goal.invariant-loop-i

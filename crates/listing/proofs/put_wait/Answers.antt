@@ -1,6 +1,6 @@
 -- `listing::put_wait`: the word, how many owners, and these.
 use native.Mathlib.Omega.{arith}
-use Rattle.listing.specs.Laws.Replying.{count_fits, wait_put}
+use Rattle.listing.proofs.Laws.Replying.{count_fits, wait_put}
 use Rattle.listing.proofs.put_wait.Goals as goal
 
 pub put_field-count-requires : goal.put_field-count-requires

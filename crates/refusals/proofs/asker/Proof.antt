@@ -5,7 +5,7 @@ use mathlib.Core.Bool.{cond, not}
 use mathlib.Core.List.{List}
 use borrow.Author.Rules.{rules}
 use borrow.Author.Tests.{lt-ltb}
-use Rattle.store.specs.Decisions.{whether_sound}
+use Rattle.store.proofs.Decisions.{whether_sound}
 use Rattle.protocol.specs.Calls as calls
 use Rattle.refusals.specs.Laws.{applies, passed, other_length, soundness, not_active_lem, is_active_lem, past_length}
 use Rattle.refusals.specs.Laws.{past_soundness, past_last}

@@ -6,10 +6,10 @@ use mathlib.Core.List.{List}
 use native.Mathlib.Omega.{arith}
 use borrow.Author.Rules.{rules}
 use Rattle.store.specs.Layout.{base, decode}
-use Rattle.store.specs.Decisions.{whether_sound}
+use Rattle.store.proofs.Decisions.{whether_sound}
 use Rattle.store.specs.Soundness.{Sound}
 use Rattle.protocol.specs.Calls.{operations_in, too_many, first, batch_reason}
-use Rattle.protocol.specs.Laws.Reasons.{limiting}
+use Rattle.protocol.proofs.Laws.Reasons.{limiting}
 use Rattle.refusals.specs.Reasons.{asker_reasons, row_limits}
 use Rattle.refusals.specs.Laws.{asker_refuses, asker_sound, own_refuses, own_silent, limited}
 use Rattle.refusals.specs.Laws.{batch_full, batch_within}

@@ -6,7 +6,7 @@ use mathlib.Core.List.{List}
 use borrow.Author.Rules.{rules}
 use borrow.Author.Tests.{lt-ltb, le-ltb}
 use lib.ListN.{length}
-use Rattle.store.specs.Decisions.{whether_sound}
+use Rattle.store.proofs.Decisions.{whether_sound}
 use Rattle.protocol.specs.Calls as calls
 use Rattle.refusals.specs.Laws.{applies, passed, other_length, soundness, not_active_lem, is_active_lem, past_length}
 use Rattle.refusals.proofs.end.Statement.{statement}

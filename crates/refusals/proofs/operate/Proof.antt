@@ -9,9 +9,9 @@ use native.Mathlib.Omega.{arith}
 use borrow.Author.Rules.{rules}
 use Rattle.store.specs.Layout.{base, decode}
 use Rattle.store.specs.Soundness.{Sound}
-use Rattle.store.specs.Decisions.{whether_sound}
+use Rattle.store.proofs.Decisions.{whether_sound}
 use Rattle.protocol.specs.Calls.{operations_in, log_full, first, operate_reason}
-use Rattle.protocol.specs.Laws.Reasons.{limiting}
+use Rattle.protocol.proofs.Laws.Reasons.{limiting}
 use Rattle.refusals.specs.Laws.{applies, passed, log_full_lem, log_room, no_room_lem, needs_none, has_room}
 use Rattle.refusals.specs.Laws.{asker_refuses, asker_sound, own_refuses, own_silent, limited, lent_below}
 use Rattle.refusals.proofs.operate.Statement.{statement}

@@ -2,9 +2,9 @@
 use mathlib.Core.Path.{sym, ◌∙◌}
 use borrow.Author.Rules.{rules}
 use Rattle.store.specs.Layout.{base}
-use Rattle.store.specs.Decisions.{whether_sound}
+use Rattle.store.proofs.Decisions.{whether_sound}
 use Rattle.protocol.specs.Terms.{BatchAccepted}
-use Rattle.protocol.specs.Laws.Reasons.{batch_accepted}
+use Rattle.protocol.proofs.Laws.Reasons.{batch_accepted}
 use Rattle.scheduler.specs.Laws.Serving.{leaves_refused, leaves_waiting, leaves_answered}
 use Rattle.scheduler.proofs.batch.Statement.{statement}
 use Rattle.scheduler.proofs.batch.Tie as tie

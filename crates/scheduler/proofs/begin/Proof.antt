@@ -2,9 +2,9 @@
 use mathlib.Core.Path.{sym, ◌∙◌}
 use borrow.Author.Rules.{rules}
 use Rattle.store.specs.Layout.{base}
-use Rattle.store.specs.Decisions.{whether_sound}
+use Rattle.store.proofs.Decisions.{whether_sound}
 use Rattle.protocol.specs.Terms.{BeginAccepted}
-use Rattle.protocol.specs.Laws.Reasons.{begin_accepted}
+use Rattle.protocol.proofs.Laws.Reasons.{begin_accepted}
 use Rattle.scheduler.specs.Laws.Serving.{begin_refused, begin_done}
 use Rattle.scheduler.proofs.begin.Statement.{statement}
 use Rattle.scheduler.proofs.begin.Tie as tie

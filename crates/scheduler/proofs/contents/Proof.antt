@@ -6,12 +6,12 @@ use borrow.Author.Rules.{rules}
 use lib.ListN.{take, drop}
 use Rattle.store.specs.Store.{object_of}
 use Rattle.store.specs.Layout.{base, decode, joined, row_words}
-use Rattle.store.specs.Decisions.{whether_sound}
-use Rattle.store.specs.Laws.Reading.{kind_below}
-use Rattle.store.specs.Laws.Rows.{rows_part, rows_few}
+use Rattle.store.proofs.Decisions.{whether_sound}
+use Rattle.store.proofs.Laws.Reading.{kind_below}
+use Rattle.store.proofs.Laws.Rows.{rows_part, rows_few}
 use Rattle.protocol.specs.Replies.{Served}
 use Rattle.protocol.specs.Terms.{ContentsAccepted}
-use Rattle.protocol.specs.Laws.Reasons.{contents_accepted}
+use Rattle.protocol.proofs.Laws.Reasons.{contents_accepted}
 use Rattle.scheduler.specs.Laws.Serving.{contents_refused, contents_served, contents_handed}
 use Rattle.scheduler.proofs.contents.Statement.{statement}
 use Rattle.scheduler.proofs.contents.Tie as tie

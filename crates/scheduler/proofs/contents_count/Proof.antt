@@ -4,12 +4,12 @@ use mathlib.Core.Path.{◌≡◌, sym, ap, ◌∙◌, subst}
 use native.Mathlib.Omega.{arith}
 use borrow.Author.Rules.{rules}
 use Rattle.store.specs.Layout.{base, word, object_start}
-use Rattle.store.specs.Decisions.{whether_sound}
-use Rattle.store.specs.Laws.Reading.{kind_below}
-use Rattle.store.specs.Laws.Rows.{rows_counted, rows_few}
+use Rattle.store.proofs.Decisions.{whether_sound}
+use Rattle.store.proofs.Laws.Reading.{kind_below}
+use Rattle.store.proofs.Laws.Rows.{rows_counted, rows_few}
 use Rattle.protocol.specs.Replies.{Served, counted}
 use Rattle.protocol.specs.Terms.{ContentsAccepted}
-use Rattle.protocol.specs.Laws.Reasons.{contents_accepted}
+use Rattle.protocol.proofs.Laws.Reasons.{contents_accepted}
 use Rattle.scheduler.specs.Laws.Serving.{contents_refused, contents_served}
 use Rattle.scheduler.proofs.contents_count.Statement.{statement}
 use Rattle.scheduler.proofs.contents_count.Tie as tie

@@ -4,11 +4,11 @@ use mathlib.Core.Path.{sym, ◌∙◌}
 use borrow.Author.Rules.{rules}
 use Rattle.operations.specs.Operations as model
 use Rattle.store.specs.Layout.{base}
-use Rattle.store.specs.Decisions.{whether_sound}
-use Rattle.store.specs.Laws.Reading.{kind_below}
+use Rattle.store.proofs.Decisions.{whether_sound}
+use Rattle.store.proofs.Laws.Reading.{kind_below}
 use Rattle.protocol.specs.Calls.{request}
 use Rattle.protocol.specs.Terms.{OperateAccepted}
-use Rattle.protocol.specs.Laws.Reasons.{operate_accepted}
+use Rattle.protocol.proofs.Laws.Reasons.{operate_accepted}
 use Rattle.batches.specs.Laws.Entering.{numbered}
 use Rattle.scheduler.specs.Laws.Serving.{operate_refused, operate_waits, operate_answers}
 use Rattle.scheduler.proofs.operate.Statement.{statement}

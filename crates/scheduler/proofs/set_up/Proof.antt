@@ -3,10 +3,10 @@ use Prim.Native.Nat.{◌≤◌}
 use mathlib.Core.Path.{sym, ◌∙◌}
 use borrow.Author.Rules.{rules}
 use Rattle.store.specs.Layout.{base}
-use Rattle.store.specs.Laws.Words.{all_get_d}
+use Rattle.store.proofs.Laws.Words.{all_get_d}
 use Rattle.refusals.specs.Laws.{none_above}
 use Rattle.protocol.specs.Terms.{SetUpAccepted}
-use Rattle.protocol.specs.Laws.Reasons.{set_up_accepted}
+use Rattle.protocol.proofs.Laws.Reasons.{set_up_accepted}
 use Rattle.scheduler.specs.Laws.Serving.{set_up_refused, set_up_done}
 use Rattle.scheduler.proofs.set_up.Statement.{statement}
 use Rattle.scheduler.proofs.set_up.Tie as tie

@@ -5,8 +5,8 @@ use native.Mathlib.Omega.{arith}
 use borrow.Author.Rules.{rules}
 use lib.ListN.{set, get_or}
 use Rattle.operations.specs.Operations.{All}
-use Rattle.store.specs.Laws.Words.{all_get_d}
-use Rattle.protocol.specs.Laws.Reasons.{none_above}
+use Rattle.store.proofs.Laws.Words.{all_get_d}
+use Rattle.protocol.proofs.Laws.Reasons.{none_above}
 use Rattle.scheduler.specs.Laws.Empty.{Written, none_written, one_written, all_written}
 use Rattle.scheduler.proofs.write_empty.Statement.{statement}
 use Rattle.scheduler.proofs.write_empty.Tie as tie

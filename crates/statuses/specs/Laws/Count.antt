@@ -5,7 +5,7 @@ use Rattle.std.proofs.Common.{add-one, arith}
 use Rattle.bitset.specs.Laws.{bit}
 use Rattle.store.specs.Store.{Status, absent, active, pseudo_committed, pseudo_committed_in}
 use Rattle.store.specs.Layout.{word, tabulate, status_at, read_status}
-use Rattle.store.specs.Laws.Lists.{tabulate_zero, tabulate_snoc}
+use Rattle.store.proofs.Laws.Lists.{tabulate_zero, tabulate_snoc}
 use Rattle.statuses.specs.Laws.Words.{finished_read}
 
 finished_last : (l : List Status) (status : Status)
