@@ -1,5 +1,6 @@
 // A block of a script answered: its records kept in a journal, where there is one, then its replies printed.
 #![tactic(auto)]
+
 ghost use Rattle.std.specs.Prelude.{◌≤◌};
 ghost use Rattle.script.specs.Sessions.{line_kept};
 ghost use Rattle.script.specs.Feeding.{Buffers};

@@ -1,6 +1,7 @@
 // The calls for programs in other languages, by C's rules of calling: a slice is a pointer and a length. None asks
 // anything of its arguments.
 #![tactic(auto)]
+
 ghost use Rattle.std.specs.Prelude.{◌≡◌, []};
 ghost use Rattle.store.specs.Layout.{base};
 ghost use Rattle.store.proofs.Decisions.{whether_sound};

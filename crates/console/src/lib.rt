@@ -1,5 +1,6 @@
 // What the programs say to their user.
 #![tactic(auto)]
+
 use libc::{EBADF, EINTR, SEEK_CUR, STDERR_FILENO, STDIN_FILENO, STDOUT_FILENO};
 
 // A descriptor of no file, as the calls that open one answer.

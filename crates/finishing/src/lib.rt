@@ -1,5 +1,6 @@
 // Finish and cancel (document 01, "Calls", and 02, No. 4). Neither asks anything of its arguments.
 #![tactic(auto)]
+
 ghost use Rattle.std.specs.Prelude.{◌≡◌, []};
 ghost use Rattle.store.specs.Layout.{base};
 ghost use Rattle.store.proofs.Decisions.{whether_sound};

@@ -1,5 +1,6 @@
 // Standard input served as a script, on standard output, with a journal or without.
 #![tactic(auto)]
+
 ghost use Rattle.std.specs.Prelude.{◌≤◌, length};
 ghost use Rattle.dispatch.specs.Replying.{most_printed, most_recorded};
 

@@ -1,5 +1,6 @@
 // A journal in a file: opened or made, its calls served again, or its records printed.
 #![tactic(auto)]
+
 ghost use Rattle.std.specs.Prelude.{◌≡◌, ◌-◌, ◌≤◌, length};
 ghost use Rattle.journal_file.specs.Reading.{Held};
 

@@ -1,5 +1,6 @@
 // A part of a journal: its records printed, or its calls served again.
 #![tactic(auto)]
+
 ghost use Rattle.std.specs.Prelude.{length};
 ghost use Rattle.journal_parts.specs.Parts.{Within};
 

@@ -1,6 +1,7 @@
 // The script program: serves a script from standard input on standard output, from a book of zeros, or behind the calls
 // of a journal, which it keeps; or prints a journal. It only moves bytes.
 #![tactic(auto)]
+
 use libc::ENAMETOOLONG;
 
 // The words that it may be started with, before a file's name, are no longer.

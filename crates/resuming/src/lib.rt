@@ -1,5 +1,6 @@
 // The calls of a journal, served again.
 #![tactic(auto)]
+
 ghost use Rattle.std.specs.Prelude.{◌≡◌, true, ◌↔◌, [], ◌∷◌, ◌*◌, ◌≤◌, length};
 ghost use Rattle.protocol.specs.Calls.{operation_words, batch_limit};
 ghost use Rattle.lines.specs.Lines.{asked};
