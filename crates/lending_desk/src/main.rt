@@ -38,11 +38,11 @@ fn run(rt: &HostRuntime, word: &[u8], path: &[u8]) {
     if !console::are_open(rt) {
         return;
     }
-    if word == b"--journal" {
+    if word == b"--journal".as_slice() {
         serve_journal(rt, path);
         return;
     }
-    if word == b"--read" {
+    if word == b"--read".as_slice() {
         journal_file::print(rt, path);
         return;
     }
