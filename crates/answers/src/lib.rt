@@ -1,5 +1,6 @@
 // What replay answers a request, and the rows that an object's entries may need.
 #![tactic(auto)]
+
 ghost use Rattle.std.specs.Prelude.{◌≡◌, ◌<◌};
 ghost use Rattle.operations.specs.Operations as model;
 ghost use Rattle.operations.specs.Log.{after};

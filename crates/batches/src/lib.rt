@@ -1,5 +1,6 @@
 // Operations that are asked for: entered in the log with their answers; of a batch, also whom they wait for.
 #![tactic(auto)]
+
 ghost use Rattle.std.specs.Prelude.{◌≡◌, true, ◌↔◌, map, ◌<◌, ◌≤◌, ◌/◌, length};
 ghost use Rattle.operations.specs.Operations.{row_limit};
 ghost use Rattle.operations.specs.Operations as model;
@@ -13,7 +14,7 @@ ghost use Rattle.entry_log.specs.Log.{StoredAs};
 ghost use Rattle.protocol.specs.Calls.{operations_in, requested as Requested, answer_to, entered, run_all, answers_to};
 ghost use Rattle.protocol.specs.Calls.{operation_words, awaited};
 ghost use Rattle.protocol.specs.Terms.{BatchAccepted};
-ghost use Rattle.protocol.specs.Laws.Lent.{lent_at};
+ghost use Rattle.protocol.proofs.Laws.Lent.{lent_at};
 ghost use Rattle.protocol.specs.ReplyOf.{filled};
 ghost use Rattle.batches.specs.Batches.{Enterable, OwnEntry, Carried};
 

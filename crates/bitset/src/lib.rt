@@ -1,5 +1,6 @@
 // Sets of 64 transactions (document 01: "a set of 64 bits" of handouts).
 #![tactic(auto)]
+
 ghost use Rattle.std.specs.Prelude.{◌≡◌, ◌&&◌, ◌||◌, not, ◌<◌, eqb};
 ghost use Rattle.bitset.specs.Bitset.{has, Members, Lowest, size as Size};
 

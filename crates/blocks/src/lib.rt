@@ -1,47 +1,55 @@
 // A block of a script answered: its records kept in a journal, where there is one, then its replies printed.
 #![tactic(auto)]
+
 ghost use Rattle.std.specs.Prelude.{◌≤◌};
 ghost use Rattle.script.specs.Sessions.{line_kept};
 ghost use Rattle.script.specs.Feeding.{Buffers};
 
-use console::NO_FILE;
+use std::fs::File;
+use std::io;
+use std::io::Write;
 
-// Appends records to the journal and brings them to disk; whether that could be done.
-fn keep(journal: i32, records: &[u8]) -> bool {
-    if journal == NO_FILE {
+// Appends records to a journal and brings them to disk.
+fn append(mut journal: &File, records: &[u8]) -> io::Result<()> {
+    journal.write_all(records)?;
+    journal.sync_data()
+}
+
+// The same, where there is a journal and a record; whether that could be done.
+fn keep(rt: &HostRuntime, journal: Option<&File>, records: &[u8]) -> bool {
+    let Some(file) = journal else {
+        return true;
+    };
+    if records.is_empty() {
         return true;
     }
-    if records.len() == 0 {
-        return true;
+    match append(file, records) {
+        Ok(()) => true,
+        Err(error) => {
+            console::fail(rt, b"journal", &error);
+            false
+        }
     }
-    if !io::write_all(journal, records) {
-        console::fail(b"journal");
-        return false;
-    }
-    let is_kept = libc::fdatasync(journal) == 0;
-    if !is_kept {
-        console::fail(b"journal");
-    }
-    is_kept
 }
 
 // Keeps records, then prints replies; whether both could be done.
-pub fn issue(journal: i32, records: &[u8], replies: &[u8]) -> bool {
-    if !keep(journal, records) {
+pub fn issue(rt: &HostRuntime, journal: Option<&File>, records: &[u8], replies: &[u8]) -> bool {
+    if !keep(rt, journal, records) {
         return false;
     }
-    console::print(replies)
+    console::print(rt, replies)
 }
 
 // Answers the lines that end in a block; whether that could be done.
 pub fn serve_block(
+    rt: &HostRuntime,
     book: &mut [u32],
     line: &mut [u8],
     kept: &mut usize,
     block: &[u8],
     out: &mut [u8],
     records: &mut [u8],
-    journal: i32,
+    journal: Option<&File>,
 ) -> bool
     requires { Buffers line.old kept.old out.old records.old }
     ensures { kept.new ≤ line_kept }
@@ -52,7 +60,7 @@ pub fn serve_block(
         let written = progress.written;
         let recorded = progress.recorded;
         *kept = progress.kept;
-        if !issue(journal, &records[..recorded], &out[..written]) {
+        if !issue(rt, journal, &records[..recorded], &out[..written]) {
             return false;
         }
         at += progress.at;

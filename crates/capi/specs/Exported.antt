@@ -2,7 +2,7 @@
 use Rattle.std.specs.Prelude.{ℕ, ◌+◌, ◌*◌, ◌≡◌, cond, List, map, eqb, length, take, drop}
 use Rattle.operations.specs.Operations.{Answer}
 use Rattle.store.specs.Layout.{base, rows_start}
-use Rattle.store.specs.Decisions.{whether_sound}
+use Rattle.store.proofs.Decisions.{whether_sound}
 use Rattle.protocol.specs.Replies.{Served}
 use Rattle.protocol.specs.ReplyOf.{answers_in, filled}
 use Rattle.protocol.specs.Calls as calls

@@ -1,9 +1,10 @@
 // The calls for programs in other languages, by C's rules of calling: a slice is a pointer and a length. None asks
 // anything of its arguments.
 #![tactic(auto)]
+
 ghost use Rattle.std.specs.Prelude.{◌≡◌, []};
 ghost use Rattle.store.specs.Layout.{base};
-ghost use Rattle.store.specs.Decisions.{whether_sound};
+ghost use Rattle.store.proofs.Decisions.{whether_sound};
 ghost use Rattle.protocol.specs.Calls as calls;
 ghost use Rattle.capi.specs.Exported.{accepted, operated, ended, exported, written, written_answers, Handed};
 

@@ -11,7 +11,7 @@ use Rattle.protocol.specs.Call.{Call, batch, desk}
 use Rattle.protocol.specs.ReplyOf.{reply_of, batched_of}
 use Rattle.protocol.specs.declared.Reply as code
 use Rattle.text.specs.Fields.{Put}
-use Rattle.text.specs.Laws.Putting.{nothing, then}
+use Rattle.text.proofs.Laws.Putting.{nothing, then}
 use Rattle.lines.specs.Lines.{call_in}
 use Rattle.lines.specs.declared.Line.{Line}
 use Rattle.lines.specs.Coded.{words_of}
@@ -19,7 +19,7 @@ use Rattle.journal.specs.Records as model
 use Rattle.journal.specs.Records.{bytes_of, file, shaped, fits, written}
 use Rattle.journal.specs.Coded.{record_of}
 use Rattle.journal.specs.Journal.{noted}
-use Rattle.journal.specs.Theorems.{most_bytes_lem}
+use Rattle.journal.proofs.Theorems.{most_bytes_lem}
 use Rattle.journal.specs.declared.Record.{Record}
 use Rattle.journal_writer.specs.Written.{handed}
 use Rattle.journal_writer.specs.declared.Written.{Written}

@@ -1,5 +1,6 @@
 // A line of a script, served: its reply put into a buffer, and its record into another.
 #![tactic(auto)]
+
 ghost use Rattle.std.specs.Prelude.{◌≡◌, true, [], ◌+◌, ◌≤◌, length};
 ghost use Rattle.text.specs.Fields.{Put};
 ghost use Rattle.journal.specs.Records.{shaped};

@@ -13,7 +13,7 @@ use Rattle.protocol.specs.Ending.{Settlement}
 abbrev pub pseudo_commit : ℕ → Store → Store
 pseudo_commit t s = with_status t (pseudo_committed (pseudo_committed_count s)) s
 
--- The 64 sets are those of the book's dependencies, and `finished` that of the pseudo_committed_lem ones; all else is
+-- The 64 sets are those of the book's dependencies, and `finished` that of the pseudo-committed ones; all else is
 -- sound, but that somebody may be ready.
 pub record Tracked (w sets : List ℕ) (finished : ℕ) : Type 0 where
   pub packed : Packed base w

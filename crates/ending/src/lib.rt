@@ -1,5 +1,6 @@
 // How a transaction ends, and who commits then.
 #![tactic(auto)]
+
 ghost use Rattle.std.specs.Prelude.{◌≡◌, ◌<◌, ◌≤◌, length};
 ghost use Rattle.store.specs.Store.{list_length, transaction_count, Active, pseudo_committed_count};
 ghost use Rattle.store.specs.Layout.{Packed, base, decode, encode};

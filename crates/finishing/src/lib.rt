@@ -1,8 +1,9 @@
 // Finish and cancel (document 01, "Calls", and 02, No. 4). Neither asks anything of its arguments.
 #![tactic(auto)]
+
 ghost use Rattle.std.specs.Prelude.{◌≡◌, []};
 ghost use Rattle.store.specs.Layout.{base};
-ghost use Rattle.store.specs.Decisions.{whether_sound};
+ghost use Rattle.store.proofs.Decisions.{whether_sound};
 ghost use Rattle.protocol.specs.Replies.{served, outcome};
 ghost use Rattle.protocol.specs.Calls as calls;
 ghost use Rattle.protocol.specs.ReplyOf.{reply_of};

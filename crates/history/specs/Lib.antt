@@ -1,4 +1,1 @@
 pub mod History
-pub mod Cases
-pub mod Laws
-pub mod Theorems

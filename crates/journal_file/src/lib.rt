@@ -1,27 +1,28 @@
 // A journal in a file: opened or made, its calls served again, or its records printed.
 #![tactic(auto)]
-ghost use Rattle.std.specs.Prelude.{◌≡◌, ◌-◌, ◌≤◌, length};
-ghost use Rattle.journal_file.specs.Reading.{Held};
 
-use console::NO_FILE;
+ghost use Rattle.std.specs.Prelude.{◌≡◌, ◌-◌, ◌≤◌, length, IfOk};
+
 use journal::Cause;
 use journal_parts::Next;
-use libc::{ENOENT, SEEK_END, SEEK_SET};
-
-// A file has no place behind this one.
-const FARTHEST: u64 = i64::MAX as u64;
+use std::fs::{File, OpenOptions};
+use std::io;
+use std::io::{Error, ErrorKind, Read, Seek, SeekFrom};
 
 // ---- Opening
 
-// Brings the folder of a file to disk; whether that could be done.
-fn sync_folder(folder: &[u8]) -> bool {
-    let opened = os::open_read(folder);
-    if opened < 0 {
-        return false;
+// A path as files are opened by: as text.
+fn name_in(path: &[u8]) -> io::Result<&str> {
+    match std::str::from_utf8(path) {
+        Ok(name) => Ok(name),
+        Err(_) => Err(Error::from(ErrorKind::InvalidFilename)),
     }
-    let is_synced = libc::fsync(opened) == 0;
-    libc::close(opened);
-    is_synced
+}
+
+// Brings the folder of a file to disk.
+fn sync_folder(rt: &HostRuntime, folder: &[u8]) -> io::Result<()> {
+    let opened = File::open(rt, name_in(folder)?)?;
+    opened.sync_all()
 }
 
 // Where the last slash of a path stands, or its length where there is none.
@@ -38,79 +39,72 @@ fn last_slash(path: &[u8]) -> usize
 }
 
 // Brings the folder that a path leads to to disk.
-fn sync_folder_of(path: &[u8]) -> bool {
+fn sync_folder_of(rt: &HostRuntime, path: &[u8]) -> io::Result<()> {
     let slash = last_slash(path);
     if slash == path.len() {
-        return sync_folder(b".");
+        return sync_folder(rt, b".");
     }
     if slash == 0 {
-        return sync_folder(b"/");
+        return sync_folder(rt, b"/");
     }
-    sync_folder(&path[..slash])
+    sync_folder(rt, &path[..slash])
+}
+
+// Opens a journal that is there, and leaves its bytes as they are.
+fn open_there(rt: &HostRuntime, name: &str) -> io::Result<File> {
+    OpenOptions::new().read(true).write(true).open(rt, name)
 }
 
 // Makes a journal that is empty, and opens it.
-fn create(path: &[u8]) -> i32 {
-    let made = os::create(path);
-    if made < 0 {
-        return NO_FILE;
-    }
-    libc::close(made);
-    os::open_update(path)
+fn create(rt: &HostRuntime, name: &str) -> io::Result<File> {
+    let made = OpenOptions::new()
+        .write(true)
+        .create_new(true)
+        .open(rt, name)?;
+    drop(made);
+    open_there(rt, name)
 }
 
 // Opens a journal, or makes one where there is none. What has no size, as a pipe, is refused. The folder of an empty
 // one is brought to disk, also where it was there: the run that made it may have ended before that.
-fn open_or_create(path: &[u8]) -> i32 {
-    let mut file = os::open_update(path);
-    if file < 0 && os::errno() == ENOENT {
-        file = create(path);
+fn open_or_create(rt: &HostRuntime, path: &[u8]) -> io::Result<File> {
+    let name = name_in(path)?;
+    let mut file = match open_there(rt, name) {
+        Ok(file) => file,
+        Err(error) if error.kind() == ErrorKind::NotFound => create(rt, name)?,
+        Err(error) => return Err(error),
+    };
+    let size = file.seek(SeekFrom::End(0))?;
+    file.seek(SeekFrom::Start(0))?;
+    if size == 0 {
+        sync_folder_of(rt, path)?;
     }
-    if file < 0 {
-        return NO_FILE;
-    }
-    let size = libc::lseek(file, 0, SEEK_END);
-    if size < 0 || libc::lseek(file, 0, SEEK_SET) < 0 {
-        return NO_FILE;
-    }
-    if size == 0 && !sync_folder_of(path) {
-        return NO_FILE;
-    }
-    file
+    Ok(file)
 }
 
 // The same; a failure was said.
-pub fn open(path: &[u8]) -> i32 {
-    let file = open_or_create(path);
-    if file < 0 {
-        console::fail(path);
+pub fn open(rt: &HostRuntime, path: &[u8]) -> Option<File> {
+    match open_or_create(rt, path) {
+        Ok(file) => Some(file),
+        Err(error) => {
+            console::fail(rt, path, &error);
+            None
+        }
     }
-    file
 }
 
 // ---- Reading on
 
-// What reading on has led to.
-#[derive(Drop)]
-enum Got {
-    // so many bytes stand in the buffer now
-    Bytes(usize),
-    Failed,
-}
-
-// Reads behind the bytes that are held. There are no more only where the file has ended: nothing is read into no room.
-fn read_more(file: i32, buffer: &mut [u8], held: usize) -> Got
-    ensures { Held result held (length buffer.old) }
+// Reads behind the bytes that are held; how many stand in the buffer then. There are no more only where the file has
+// ended: nothing is read into no room.
+fn read_more(mut file: &File, buffer: &mut [u8], held: usize) -> io::Result<usize>
+    ensures { IfOk result (λ end. (held ≤ end) × (end ≤ length buffer.old)) }
 {
     if buffer.len() <= held {
-        return Got::Failed;
+        return Err(Error::from(ErrorKind::FileTooLarge));
     }
-    let part = &mut buffer[held..];
-    let got = libc::read(file, part);
-    if got < 0 {
-        return Got::Failed;
-    }
-    Got::Bytes(held + io::count(got, part))
+    let got = file.read(&mut buffer[held..])?;
+    Ok(held + got)
 }
 
 // Moves the bytes from one place to another to the front; how many they are.
@@ -137,20 +131,21 @@ enum Walked {
 }
 
 // Goes through a journal part by part: prints it, or serves its calls again. The last part is the one that reading adds
-// nothing to. As nothing says that a file ends, the loop counts its turns down from a number that no run uses up.
-fn walk(file: i32, path: &[u8], book: &mut [u32], prints: bool) -> Walked {
-    let mut buffer = io::large_buffer();
+// nothing to. As nothing says that a file ends, the loop counts its turns up to a number that no run uses up.
+fn walk(rt: &HostRuntime, file: &File, path: &[u8], book: &mut [u32], prints: bool) -> Walked {
+    let mut buffer = [0u8; console::BUFFER];
     let mut start: u64 = 0;
     let mut held: usize = 0;
-    let mut turns = u64::MAX;
-    while turns > 0 {
-        let got = read_more(file, &mut buffer, held);
-        let Got::Bytes(end) = got else {
-            console::fail(path);
-            return Walked::Stop;
+    for _ in 0..u64::MAX {
+        let end = match read_more(file, &mut buffer, held) {
+            Ok(end) => end,
+            Err(error) => {
+                console::fail(rt, path, &error);
+                return Walked::Stop;
+            }
         };
-        let next = journal_parts::take_part(book, path, &buffer[..end], start, end == held, prints);
-        match next {
+        let part = &buffer[..end];
+        match journal_parts::take_part(rt, book, path, part, start, end == held, prints) {
             Next::On(at) => {
                 start = journal_parts::place_in(start, at);
                 held = move_front(&mut buffer, at, end);
@@ -159,56 +154,58 @@ fn walk(file: i32, path: &[u8], book: &mut [u32], prints: bool) -> Walked {
             Next::Cut(at) => return Walked::Cut(journal_parts::place_in(start, at)),
             Next::Stop => return Walked::Stop,
         }
-        turns -= 1;
     }
     Walked::Stop
 }
 
 // ---- What it is for
 
-// Cuts away a record that is cut, which is said at once, and brings that to disk.
-fn cut_away(file: i32, path: &[u8], whole: u64) -> bool {
+// Cuts away a record that is cut, which is said at once, brings that to disk, and leaves the file at its end.
+fn cut_away(rt: &HostRuntime, mut file: &File, path: &[u8], whole: u64) -> io::Result<()> {
     console::tell(
+        rt,
         path,
         b"note: the last record is cut, and is cut away",
         whole,
     );
-    if FARTHEST < whole {
-        return false;
-    }
-    if libc::ftruncate(file, whole as i64) != 0 {
-        return false;
-    }
-    libc::fdatasync(file) == 0
+    file.set_len(whole)?;
+    file.sync_data()?;
+    file.seek(SeekFrom::End(0))?;
+    Ok(())
 }
 
 // Serves the calls of a journal again, and leaves the file at its end; whether it can be used. Why not was said.
-pub fn resume(file: i32, path: &[u8], book: &mut [u32]) -> bool {
-    let walked = walk(file, path, book, false);
-    match walked {
+pub fn resume(rt: &HostRuntime, file: &File, path: &[u8], book: &mut [u32]) -> bool {
+    match walk(rt, file, path, book, false) {
         Walked::Whole => true,
         Walked::Stop => false,
-        Walked::Cut(whole) => {
-            let is_cut = cut_away(file, path, whole) && 0 <= libc::lseek(file, 0, SEEK_END);
-            if !is_cut {
-                console::fail(path);
+        Walked::Cut(whole) => match cut_away(rt, file, path, whole) {
+            Ok(()) => true,
+            Err(error) => {
+                console::fail(rt, path, &error);
+                false
             }
-            is_cut
-        }
+        },
     }
 }
 
+// Opens a journal to be read alone.
+fn open_to_read(rt: &HostRuntime, path: &[u8]) -> io::Result<File> {
+    File::open(rt, name_in(path)?)
+}
+
 // Prints a journal: each record's call as a line of a script, a tab, and its reply. Damage is said behind that.
-pub fn print(path: &[u8]) {
-    let file = os::open_read(path);
-    if file < 0 {
-        console::fail(path);
-        return;
-    }
+pub fn print(rt: &HostRuntime, path: &[u8]) {
+    let file = match open_to_read(rt, path) {
+        Ok(file) => file,
+        Err(error) => {
+            console::fail(rt, path, &error);
+            return;
+        }
+    };
     // No call is served.
     let mut book = [0u32; 0];
-    let walked = walk(file, path, &mut book, true);
-    if let Walked::Cut(place) = walked {
-        journal_parts::tell_damage(path, Cause::Cut, place);
+    if let Walked::Cut(place) = walk(rt, &file, path, &mut book, true) {
+        journal_parts::tell_damage(rt, path, Cause::Cut, place);
     }
 }

@@ -1,5 +1,6 @@
 // Numbers in groups of seven bits, read at a place of any bytes: one, several, or a count.
 #![tactic(auto)]
+
 ghost use Rattle.std.specs.Prelude.{◌≡◌, ◌+◌, ◌≤◌, ◌<◌, length, get_or, drop};
 ghost use Rattle.journal.specs.Groups.{number, numbers};
 ghost use Rattle.journal.specs.Reading.{count};

@@ -1,5 +1,6 @@
 // A record written: its bytes by value, or 13 and none.
 #![tactic(auto)]
+
 ghost use Rattle.std.specs.Prelude.{◌≡◌, true, cond, List, [], ◌∷◌, ℕ, ◌+◌, ◌≤◌, length};
 ghost use Rattle.bitset.specs.Bitset.{members};
 ghost use Rattle.protocol.specs.Calls.{batch_limit};

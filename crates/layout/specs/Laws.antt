@@ -7,10 +7,10 @@ use Rattle.std.proofs.lemmas.Nat.{and_le_l, and_le_r}
 use Rattle.std.proofs.Math.ListN.{get_or-eq_default}
 use Rattle.std.proofs.Math.Seq.{drop-length}
 use Rattle.operations.specs.Operations.{Row, row}
-use Rattle.operations.specs.Laws.Cases.{split, same}
+use Rattle.operations.proofs.Laws.Cases.{split, same}
 use Rattle.replay.specs.Replay.{row_of, rows_of}
 use Rattle.store.specs.Layout.{word, tabulate, object_start, row_at, rows_at}
-use Rattle.store.specs.Laws.Lists.{tabulate_snoc, tabulate_zero, tabulate_same}
+use Rattle.store.proofs.Laws.Lists.{tabulate_snoc, tabulate_zero, tabulate_same}
 use Rattle.layout.specs.Rows.{row_in}
 
 -- ---- Zeros

@@ -1,5 +1,6 @@
 // Where the parts of a book stand, and what is read there.
 #![tactic(auto)]
+
 ghost use Rattle.std.specs.Prelude.{◌≡◌, true, ◌↔◌, ℕ, ◌+◌, ◌*◌, ◌<◌, ◌≤◌, length, replicate};
 ghost use Rattle.store.specs.Store.{entry_limit, object_count};
 ghost use Rattle.operations.specs.Operations.{row_limit};

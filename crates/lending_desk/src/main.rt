@@ -1,70 +1,74 @@
 // The script program: serves a script from standard input on standard output, from a book of zeros, or behind the calls
 // of a journal, which it keeps; or prints a journal. It only moves bytes.
 #![tactic(auto)]
-use libc::ENAMETOOLONG;
+
+use std::env::FillError;
+use std::fs::File;
+use std::io::Error;
+use std::rt::Env;
 
 // The words that it may be started with, before a file's name, are no longer.
 const LONGEST_WORD: usize = 16;
 
+// The system opens no file by a longer name, PATH_MAX.
+const LONGEST_NAME: usize = 4096;
+
+// ENAMETOOLONG, of which the system has the reason that is said.
+const TOO_LONG: i32 = 36;
+
 // Serves a script.
-fn serve(journal: i32) {
+fn serve(rt: &HostRuntime, journal: Option<&File>) {
     let mut book = [0u32; layout::WORDS];
-    input::serve(&mut book, journal);
+    input::serve(rt, &mut book, journal);
 }
 
 // Serves a script behind the calls of a journal, and appends its records to that.
-fn serve_journal(path: &[u8]) {
-    let file = journal_file::open(path);
-    if file < 0 {
+fn serve_journal(rt: &HostRuntime, path: &[u8]) {
+    let Some(file) = journal_file::open(rt, path) else {
         return;
-    }
+    };
     let mut book = [0u32; layout::WORDS];
-    if journal_file::resume(file, path, &mut book) {
-        input::serve(&mut book, file);
+    if journal_file::resume(rt, &file, path, &mut book) {
+        input::serve(rt, &mut book, Some(&file));
     }
 }
 
 // What the word asks for, of the file.
-fn run(word: &[u8], path: &[u8]) {
-    if !console::are_open() {
+fn run(rt: &HostRuntime, word: &[u8], path: &[u8]) {
+    if !console::are_open(rt) {
         return;
     }
-    if check::same(word, b"--journal") {
-        serve_journal(path);
+    if word == b"--journal".as_slice() {
+        serve_journal(rt, path);
         return;
     }
-    if check::same(word, b"--read") {
-        journal_file::print(path);
+    if word == b"--read".as_slice() {
+        journal_file::print(rt, path);
         return;
     }
-    tell_usage();
+    tell_usage(rt);
 }
 
-fn tell_usage() {
-    console::say(b"usage: lending_desk [--journal FILE | --read FILE]");
+fn tell_usage(rt: &HostRuntime) {
+    console::say(rt, b"usage: lending_desk [--journal FILE | --read FILE]");
 }
 
-// No file is named, or by too long a name.
-fn refuse_name() {
-    if os::errno() == ENAMETOOLONG {
-        console::fail(b"FILE");
-        return;
+// What a word asks for, of the file that is named behind it.
+fn run_word(rt: &HostRuntime, word: &[u8]) {
+    let mut path = [0u8; LONGEST_NAME];
+    match rt.arg(2, &mut path) {
+        Ok(0) | Err(FillError::NotPresent) => tell_usage(rt),
+        Ok(length) => run(rt, word, &path[..length]),
+        Err(FillError::TooLong) => console::fail(rt, b"FILE", &Error::from_raw_os_error(TOO_LONG)),
     }
-    tell_usage();
 }
 
-fn main() {
-    if os::arg_count() <= 1 {
-        serve(console::NO_FILE);
-        return;
-    }
+fn main(rt: HostRuntime) {
     let mut word = [0u8; LONGEST_WORD];
-    let mut path = io::buffer();
-    let letters = os::arg(1, &mut word);
-    let length = os::arg(2, &mut path);
-    if length == 0 {
-        refuse_name();
-        return;
+    match rt.arg(1, &mut word) {
+        Ok(letters) => run_word(&rt, &word[..letters]),
+        // It is none of the words.
+        Err(FillError::TooLong) => run_word(&rt, b""),
+        Err(FillError::NotPresent) => serve(&rt, None),
     }
-    run(&word[..letters], &path[..length]);
 }

@@ -1,7 +1,7 @@
 -- Which letter a byte is, or that it is none.
 use Rattle.std.specs.Prelude.{ℕ, ◌+◌, ◌*◌, ◌≤◌, ◌<◌, ◌≡◌, false}
 use Rattle.std.proofs.Common.{sym, subst, arith, ne_eqb}
-use Rattle.operations.specs.Laws.Cases.{same, by_key}
+use Rattle.operations.proofs.Laws.Cases.{same, by_key}
 use Rattle.journal.specs.Records.{arguments_of, gives}
 use Rattle.journal.specs.Coded.{or_zero, argument_count, answer_count}
 use Rattle.letters.specs.Letters.{most_arguments}

@@ -1,4 +1,2 @@
 pub mod Listing
 pub mod Room
-pub mod Theorems
-pub mod Laws

@@ -1,6 +1,7 @@
 // The objects in the book, words 65 to 2,144: their ranges and zeros, the form of their rows, and an operation folded
 // into one.
 #![tactic(auto)]
+
 ghost use Rattle.std.specs.Prelude.{◌≡◌, true, ◌↔◌, [], ◌∷◌, ◌++◌, ℕ, ◌-◌, ◌<◌, ◌≤◌, length, take};
 ghost use Rattle.std.proofs.Math.Option.{some};
 ghost use Rattle.store.specs.Store.{object_count};

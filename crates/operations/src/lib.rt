@@ -1,5 +1,6 @@
 // Operations and answers as the book stores them, and the numbers of operations and kinds.
 #![tactic(auto)]
+
 ghost use Rattle.std.specs.Prelude.{◌≡◌};
 ghost use Rattle.operations.specs.Operations.{kind_number};
 ghost use Rattle.operations.specs.PairRules.{kind_numbered};

@@ -5,7 +5,7 @@ use Rattle.std.proofs.Math.ListN.{get_or-map}
 use Rattle.operations.specs.Operations as model
 use Rattle.operations.specs.PairRules.{Rule, never, Rules, rule_at, related, first_number, last_number}
 use Rattle.operations.specs.PairRules.{kind_numbered, recoverable_rules}
-use Rattle.operations.specs.Laws.Numbers.{numbered_as}
+use Rattle.operations.proofs.Laws.Numbers.{numbered_as}
 use Rattle.operations.specs.declared.Operation.{Operation}
 use Rattle.pairs.specs.Pairs.{code_of, code_at, ByKeys, allows_keys, OneKind, both, pair_of, RowOf, Filled}
 

@@ -1,5 +1,6 @@
 // The pair rules as constant tables: a row for each requested operation, in it a code for each logged one.
 #![tactic(auto)]
+
 ghost use Rattle.std.specs.Prelude.{◌≡◌, ◌-◌, ◌≤◌};
 ghost use Rattle.operations.specs.PairRules.{Rule, recoverable as Recoverable};
 ghost use Rattle.operations.specs.PairRules.{Numbered, recoverable_rules, commuting_rules};

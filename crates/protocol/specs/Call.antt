@@ -4,7 +4,7 @@ use Rattle.std.specs.Prelude.{ℕ, List, [], ◌∷◌}
 use Rattle.operations.specs.Operations.{Answer, stored}
 use Rattle.store.specs.Store.{Logged}
 use Rattle.store.specs.Layout.{Format, base, or_pop}
-use Rattle.store.specs.Decisions.{whether_sound}
+use Rattle.store.proofs.Decisions.{whether_sound}
 use Rattle.store.specs.Soundness.{Sound}
 use Rattle.protocol.specs.Replies.{Served}
 use Rattle.protocol.specs.Calls.{LentOperation}

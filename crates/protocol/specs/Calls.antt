@@ -12,7 +12,7 @@ use Rattle.store.specs.Store.{transaction_count, object_count, entry_limit, list
 use Rattle.store.specs.Store.{Status, absent, active, pseudo_committed, Store, status_of, object_of, pseudo_committed_count}
 use Rattle.store.specs.Store.{on_object}
 use Rattle.store.specs.Layout.{book_words, Format, encode, decode, read_kind, or_pop, joined, row_words}
-use Rattle.store.specs.Decisions.{whether_ready, whether_on_cycle}
+use Rattle.store.proofs.Decisions.{whether_ready, whether_on_cycle}
 use Rattle.store.specs.Soundness.{Sound}
 use Rattle.store.specs.Steps.{appended, with_status}
 use Rattle.protocol.specs.Replies.{Reply, ok, answered, wait, finished, committed, circle, cancelled, counted}

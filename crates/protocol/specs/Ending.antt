@@ -4,7 +4,7 @@ use Rattle.std.proofs.Math.Bool.{decide}
 use Rattle.std.proofs.Math.Option.{Option, none, some}
 use Rattle.store.specs.Store.{transaction_count, Status, absent, active, pseudo_committed, Logged, Store, status_of}
 use Rattle.store.specs.Store.{pseudo_committed_count}
-use Rattle.store.specs.Decisions.{whether_ready}
+use Rattle.store.proofs.Decisions.{whether_ready}
 use Rattle.store.specs.Steps.{dropped, folded, with_status, closed_up}
 
 -- The transaction's entries carried into the rows, in order.
@@ -43,7 +43,7 @@ has_rank rank absent = false
 has_rank rank active = false
 has_rank rank (pseudo_committed r) = eqb r rank
 
--- The pseudo_committed_lem (finished) one of lowest rank that depends on nobody. In a sound store ranks are below 64, as
+-- The pseudo-committed (finished) one of lowest rank that depends on nobody. In a sound store ranks are below 64, as
 -- transactions are.
 unfoldable pub lowest_ready : Store → Option ℕ
 lowest_ready s =
@@ -70,6 +70,6 @@ abbrev pub settled : ℕ → Store → Settlement
 settled zero s = settlement s []
 settled (suc n) s = perhaps (lowest_ready s) (settlement s []) (λ t. committed_first t (settled n (commit t s)))
 
--- Until none is left: no more can commit than are pseudo_committed_lem.
+-- Until none is left: no more can commit than are pseudo-committed.
 abbrev pub settled_all : Store → Settlement
 settled_all s = settled (pseudo_committed_count s) s

@@ -4,7 +4,3 @@ pub mod Ending
 pub mod Calls
 pub mod Call
 pub mod Terms
-pub mod Counterexamples
-pub mod Laws
-pub mod Theorems
-pub mod Samples

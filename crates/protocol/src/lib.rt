@@ -1,5 +1,6 @@
 // The commit protocol: definitions of the calls and theorems about them, in specs/; and the types of replies.
 #![tactic(auto)]
+
 use operations::Answer;
 
 // Reasons for saying no, and that there is none.

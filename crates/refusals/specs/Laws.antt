@@ -6,29 +6,29 @@ use Rattle.std.proofs.Math.Option.{Option, none, some}
 use Rattle.std.proofs.lemmas.Bool.{lt-leb}
 use Rattle.std.proofs.Math.ListN.{get_or-eq_default}
 use Rattle.operations.specs.Operations.{Kind, Stack, Set, Table, kind_number, Operation, numbered, reduce_key}
-use Rattle.operations.specs.Laws.Cases.{split, same, by_key}
-use Rattle.operations.specs.Laws.Numbers.{kinds, within_kind}
+use Rattle.operations.proofs.Laws.Cases.{split, same, by_key}
+use Rattle.operations.proofs.Laws.Numbers.{kinds, within_kind}
 use Rattle.operations.specs.PairRules.{first_number, last_number, OfKind, kind_numbered}
 use Rattle.operations.specs.Operations.{adds}
 use Rattle.store.specs.Layout.{BookLong, book_words}
 use Rattle.store.specs.Store.{Status, Object, Store, status_of, object_of}
 use Rattle.store.specs.Layout.{base, decode, read_status, read_kind, word, object_start, entry_at, or_pop, Packed}
 use Rattle.store.specs.Soundness.{Sound}
-use Rattle.store.specs.Decisions.{whether_sound}
-use Rattle.store.specs.Laws.Deciding.{decided}
-use Rattle.store.specs.Laws.Lists.{length_tabulate}
-use Rattle.store.specs.Laws.Reading.{status_by_word, object_read, object_past, kind_below}
-use Rattle.store.specs.Laws.Objects.{kind_named}
-use Rattle.store.specs.Laws.Words.{below, each}
+use Rattle.store.proofs.Decisions.{whether_sound}
+use Rattle.store.proofs.Laws.Deciding.{decided}
+use Rattle.store.proofs.Laws.Lists.{length_tabulate}
+use Rattle.store.proofs.Laws.Reading.{status_by_word, object_read, object_past, kind_below}
+use Rattle.store.proofs.Laws.Objects.{kind_named}
+use Rattle.store.proofs.Laws.Words.{below, each}
 use Rattle.answers.specs.Answers.{rows_needed}
 use Rattle.answers.specs.Laws.Entries.{needed_none, needed_few}
-use Rattle.protocol.specs.Laws.Reasons.{Silent, positive, positive_numbers, crowded, limiting, said_first, first_past}
-use Rattle.protocol.specs.Laws.Reasons.{none_applies, none_any, first_numbered, own_numbers, limit_numbers, full}
-use Rattle.protocol.specs.Laws.Reasons.{some_kind, is_sound, of_length}
-use Rattle.protocol.specs.Laws.Batches.{log_limit}
+use Rattle.protocol.proofs.Laws.Reasons.{Silent, positive, positive_numbers, crowded, limiting, said_first, first_past}
+use Rattle.protocol.proofs.Laws.Reasons.{none_applies, none_any, first_numbered, own_numbers, limit_numbers, full}
+use Rattle.protocol.proofs.Laws.Reasons.{some_kind, is_sound, of_length}
+use Rattle.protocol.proofs.Laws.Batches.{log_limit}
 use Rattle.store.specs.Dependency.{Any}
-use Rattle.protocol.specs.Laws.Lent.{no_operation, lent_at, lent_count, lent_at_lem, from_place, none_left, needing, needed_of}
-use Rattle.protocol.specs.Laws.Lent.{needed_one_more, run_one_more, used_all}
+use Rattle.protocol.proofs.Laws.Lent.{no_operation, lent_at, lent_count, lent_at_lem, from_place, none_left, needing, needed_of}
+use Rattle.protocol.proofs.Laws.Lent.{needed_one_more, run_one_more, used_all}
 use Rattle.protocol.specs.Calls.{LentOperation, operations_in, too_many, own_reasons, first, run, run_all, limits}
 use Rattle.protocol.specs.Calls.{batch_reason}
 use Rattle.protocol.specs.Calls.{wrong_length, some_above, bad_kinds, unsound, above_last, is_live, already_live, is_active}

@@ -1,9 +1,9 @@
 -- Parts of the lists of reasons.
 use Rattle.std.specs.Prelude.{ℕ, Bool, List, [], ◌∷◌}
 use Rattle.store.specs.Layout.{base, decode}
-use Rattle.store.specs.Decisions.{whether_sound}
+use Rattle.store.proofs.Decisions.{whether_sound}
 use Rattle.protocol.specs.Calls.{operations_in, wrong_length, unsound, above_last, not_active, limits}
-use Rattle.protocol.specs.Laws.Reasons.{crowded}
+use Rattle.protocol.proofs.Laws.Reasons.{crowded}
 
 -- Of who asks for operations.
 abbrev pub asker_reasons : List ℕ → ℕ → Bool → List (ℕ × Bool)

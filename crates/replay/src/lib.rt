@@ -1,5 +1,6 @@
 // Replay of one operation on a copy of an object's rows: 64 pairs by value, handed through and handed back.
 #![tactic(auto)]
+
 ghost use Rattle.std.specs.Prelude.{◌≡◌, [], ◌∷◌, ◌++◌, map, ◌+◌, ◌-◌, ◌<◌, ◌≤◌, length, take};
 ghost use Rattle.operations.specs.Operations.{row_limit};
 ghost use Rattle.operations.specs.Operations.{row, flag as Flag, valued, top_item, found, present as Present};

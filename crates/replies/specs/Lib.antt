@@ -1,3 +1,1 @@
 pub mod Printed
-pub mod Samples
-pub mod Laws

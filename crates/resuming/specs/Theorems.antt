@@ -2,14 +2,14 @@
 use Rattle.std.specs.Prelude.{ℕ, ◌≡◌, refl, true, ◌⊎◌, List, [], ◌++◌, drop}
 use Rattle.std.proofs.Common.{sym, ap, ◌∙◌, subst, inl, inr, ⊎_elim, append-nil}
 use Rattle.operations.specs.Operations.{All}
-use Rattle.operations.specs.Laws.Cases.{all_parts}
+use Rattle.operations.proofs.Laws.Cases.{all_parts}
 use Rattle.protocol.specs.Call.{Call, desk}
 use Rattle.history.specs.History.{book_after}
 use Rattle.journal.specs.Groups.{cut}
 use Rattle.journal.specs.Records.{Record, file, fits}
 use Rattle.journal.specs.Reading.{step, stopped}
 use Rattle.journal.specs.Journal.{journal}
-use Rattle.journal.specs.Theorems.{cut_anywhere}
+use Rattle.journal.proofs.Theorems.{cut_anywhere}
 use Rattle.journal.specs.declared.Cause.TheVariants.{Cut}
 use Rattle.resuming.specs.Resuming.{Replayed, Ended}
 use Rattle.resuming.specs.Laws.Chains.{behind, replayed, Beginning, beginning}

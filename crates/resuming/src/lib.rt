@@ -1,5 +1,6 @@
 // The calls of a journal, served again.
 #![tactic(auto)]
+
 ghost use Rattle.std.specs.Prelude.{◌≡◌, true, ◌↔◌, [], ◌∷◌, ◌*◌, ◌≤◌, length};
 ghost use Rattle.protocol.specs.Calls.{operation_words, batch_limit};
 ghost use Rattle.lines.specs.Lines.{asked};
@@ -54,7 +55,7 @@ fn confirms(book: &mut [u32], content: Record, bytes: &[u8]) -> bool
     let told = serving::serve(book, asked);
     let mut written = [0u8; journal::MOST];
     let count = dispatch::put_record(&mut written, 0, asked, told);
-    check::same(&written[..count], bytes)
+    &written[..count] == bytes
 }
 
 // What is found at a place, from a book on.

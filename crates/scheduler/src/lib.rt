@@ -1,9 +1,10 @@
 // The calls (document 01, "Calls", and 02) but finish and cancel. None asks anything of its arguments.
 #![tactic(auto)]
+
 ghost use Rattle.std.specs.Prelude.{ℕ, ◌+◌, ◌*◌, ◌≡◌, false, [], length, take, drop};
 ghost use Rattle.store.specs.Store.{object_count};
 ghost use Rattle.store.specs.Layout.{BookLong, base, encode, rows_start};
-ghost use Rattle.store.specs.Decisions.{whether_sound};
+ghost use Rattle.store.proofs.Decisions.{whether_sound};
 ghost use Rattle.protocol.specs.Replies.{served, outcome, counted};
 ghost use Rattle.protocol.specs.Calls as calls;
 ghost use Rattle.protocol.specs.ReplyOf.{reply_of, batched_of, Filled};

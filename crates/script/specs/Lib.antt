@@ -1,6 +1,3 @@
 pub mod Script
 pub mod Sessions
 pub mod Feeding
-pub mod Theorems
-pub mod Cases
-pub mod Laws

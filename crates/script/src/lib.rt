@@ -1,6 +1,7 @@
 // A script served as its bytes come: each line answered on the book, each reply put into a buffer and each record into
 // another.
 #![tactic(auto)]
+
 ghost use Rattle.std.specs.Prelude.{◌≡◌, true, ◌↔◌, ◌+◌, ◌≤◌, ◌<◌, length, take};
 ghost use Rattle.dispatch.specs.Replying.{most_printed, most_recorded};
 ghost use Rattle.script.specs.Sessions.{session, closing};

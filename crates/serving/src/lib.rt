@@ -1,5 +1,6 @@
 // The call that a line asks for, made on a book.
 #![tactic(auto)]
+
 ghost use Rattle.std.specs.Prelude.{◌≡◌, ◌*◌, ◌≤◌};
 ghost use Rattle.protocol.specs.Calls.{operation_words, batch_limit};
 ghost use Rattle.protocol.specs.ReplyOf.{Filled};

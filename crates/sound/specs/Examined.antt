@@ -13,7 +13,7 @@ pub record Bounded (w : List ℕ) : Type 0 where
   pub objects : base.ObjectsPacked w
   pub log : LogBounded w
 
--- The set of pseudo_committed_lem transactions, and for each transaction the set of those that it depends on.
+-- The set of pseudo-committed transactions, and for each transaction the set of those that it depends on.
 pub record Examined (w : List ℕ) (finished : ℕ) (edges : List ℕ) : Type 0 where
   pub members : Holds finished (PseudoCommitted (decode base w))
   pub whole : length edges ≡ 64

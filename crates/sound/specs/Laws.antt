@@ -2,14 +2,14 @@
 use Rattle.std.specs.Prelude.{ℕ, ◌≡◌, refl, Bool, true, false, ◌↔◌, List}
 use Rattle.std.proofs.Common.{sym, true≢false, le_refl}
 use Rattle.bitset.specs.Bitset.{Holds, Represents, In}
-use Rattle.operations.specs.Laws.Cases.{no, denied}
+use Rattle.operations.proofs.Laws.Cases.{no, denied}
 use Rattle.store.specs.Layout.{BookLong}
 use Rattle.store.specs.Store.{Store, Live, PseudoCommitted}
 use Rattle.store.specs.Dependency.{DependsOn, Way}
 use Rattle.sound.specs.Examined.{Bounded}
 use Rattle.store.specs.Soundness.{EntriesLive, Acyclic, Dependent}
-use Rattle.store.specs.Laws.Dependencies.{depended_on}
-use Rattle.store.specs.Laws.Ways.{way_monotone}
+use Rattle.store.proofs.Laws.Dependencies.{depended_on}
+use Rattle.store.proofs.Laws.Ways.{way_monotone}
 use Rattle.graph.specs.Edges.{EdgeIn}
 
 -- A clause that fails refuses the whole.

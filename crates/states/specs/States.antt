@@ -9,7 +9,7 @@ use Rattle.store.specs.Store.{object_of}
 use Rattle.store.specs.Layout.{word, decode, operation_at, object_start, rows_at, Packed, base}
 use Rattle.store.specs.Soundness.{EntriesFit, RowsFormed}
 use Rattle.representatives.specs.Representatives.{entry_object, entry_key, First, Representative}
-use Rattle.store.specs.Laws.Entries.{entries_from}
+use Rattle.store.proofs.Laws.Entries.{entries_from}
 
 -- ---- An operation on a key, by its number
 

@@ -1,5 +1,6 @@
 // The statuses of transactions: words 1 to 64 of the book.
 #![tactic(auto)]
+
 ghost use Rattle.std.specs.Prelude.{◌≡◌, true, ◌&&◌, ◌||◌, ◌↔◌, ◌+◌, ◌<◌, eqb};
 ghost use Rattle.bitset.specs.Bitset.{has, Members, Holds};
 ghost use Rattle.store.specs.Layout.{BookLong, Packed, base, decode, encode, read_status, word};

@@ -57,7 +57,7 @@ module _ (Edge : ℕ → ℕ → Type 0) (Through : ℕ → Type 0) where
   abbrev pub Successor : ℕ → ℕ → Type 0
   Successor t u = (u ≡ t → ⊥) × Through u × Leads t u
 
--- The transaction lies on a cycle whose other members are all pseudo_committed_lem (finished). There are 64 transactions,
+-- The transaction lies on a cycle whose other members are all pseudo-committed (finished). There are 64 transactions,
 -- so 64 steps lead round any cycle.
 abbrev pub OnCycle : Store → ℕ → Type 0
 OnCycle s t = Way (DependsOn s.log) (PseudoCommitted s) transaction_count t t
@@ -65,8 +65,8 @@ OnCycle s t = Way (DependsOn s.log) (PseudoCommitted s) transaction_count t t
 -- ---- The sets of document 000, section 4.2.1 (02, No. 4)
 
 -- An edge of its commit dependency graph leads from a transaction to one that it depends on (definition 5). So PRED(t)
--- are the pseudo_committed_lem (finished) ones that depend on t, and SUCC(t) those on whom t depends: near and far, by ways
--- whose every node but t is pseudo_committed_lem. t itself is in neither.
+-- are the pseudo-committed (finished) ones that depend on t, and SUCC(t) those on whom t depends: near and far, by ways
+-- whose every node but t is pseudo-committed. t itself is in neither.
 abbrev pub PRED : Store → ℕ → ℕ → Type 0
 PRED s = Predecessor (DependsOn s.log) (PseudoCommitted s)
 

@@ -54,12 +54,12 @@ WithoutGaps s =
 abbrev pub Acyclic : Store → Type 0
 Acyclic s = (t : ℕ) → PseudoCommitted s t → OnCycle s t → ⊥
 
--- Each pseudo_committed_lem transaction depends on a live one.
+-- Each pseudo-committed transaction depends on a live one.
 abbrev pub Dependent : Store → Type 0
 Dependent s = (t : ℕ) → PseudoCommitted s t → (u : ℕ) × Live s u × DependsOn s.log t u
 
 module _ (format : Format) where
-  -- Sound, but that a pseudo_committed_lem transaction may depend on nobody: as a store is between a transaction's end and
+  -- Sound, but that a pseudo-committed transaction may depend on nobody: as a store is between a transaction's end and
   -- the last commit that follows.
   pub record Unsettled (s : Store) : Type 0 where
     pub rows : RowsFormed format s

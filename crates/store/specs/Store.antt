@@ -22,7 +22,7 @@ list_length = 64
 
 -- ---- What a book holds
 
--- The status of a transaction (handout): absent, active (open), or pseudo_committed_lem (finished) with its rank in the
+-- The status of a transaction (handout): absent, active (open), or pseudo-committed (finished) with its rank in the
 -- order of finishing.
 pub data Status : Type 0 where
   absent active : Status
@@ -53,7 +53,7 @@ status_of s t = get_or s.statuses t absent
 abbrev pub object_of : Store → ℕ → Object
 object_of s o = get_or s.objects o no_object
 
--- Active or pseudo_committed_lem.
+-- Active or pseudo-committed.
 abbrev pub Live : Store → ℕ → Type 0
 Live s t = status_of s t ≡ absent → ⊥
 
@@ -69,7 +69,7 @@ pseudo_committed_in (absent ∷ l) = pseudo_committed_in l
 pseudo_committed_in (active ∷ l) = pseudo_committed_in l
 pseudo_committed_in (pseudo_committed rank ∷ l) = suc (pseudo_committed_in l)
 
--- How many are pseudo_committed_lem (finished).
+-- How many are pseudo-committed (finished).
 abbrev pub pseudo_committed_count : Store → ℕ
 pseudo_committed_count s = pseudo_committed_in s.statuses
 

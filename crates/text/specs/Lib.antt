@@ -1,5 +1,3 @@
 pub mod Text
 pub mod Fields
 pub mod Finding
-pub mod Theorems
-pub mod Laws

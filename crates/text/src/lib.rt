@@ -1,5 +1,6 @@
 // Numbers in decimal, as bytes: read from a field, and put into a buffer.
 #![tactic(auto)]
+
 ghost use Rattle.std.specs.Prelude.{◌≡◌, ◌+◌, ◌≤◌, length};
 ghost use Rattle.text.specs.Text.{number_in, decimal};
 ghost use Rattle.text.specs.Fields.{number_said, Put};

@@ -6,7 +6,7 @@ use Rattle.store.specs.Layout.{BookLong}
 use Rattle.protocol.specs.Replies.{ok}
 use Rattle.protocol.specs.Call.{set_up, desk}
 use Rattle.history.specs.History.{trace}
-use Rattle.history.specs.Cases.{calls_of, whole_kinds, whole_case, twice_kinds, twice_used, batched_kinds, batched}
+use Rattle.history.proofs.Cases.{calls_of, whole_kinds, whole_case, twice_kinds, twice_used, batched_kinds, batched}
 use Rattle.traces.specs.Laws.Computing.{unchecked, trace_computed}
 
 pub whole_case_trace : (w : List ℕ) → BookLong w

@@ -1,5 +1,6 @@
 // The operation that a call asks for: as it is stored, and whom it waits for.
 #![tactic(auto)]
+
 ghost use Rattle.std.specs.Prelude.{◌≡◌};
 ghost use Rattle.operations.specs.Operations as model;
 ghost use Rattle.operations.specs.PairRules.{Numbered};

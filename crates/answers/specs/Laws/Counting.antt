@@ -6,8 +6,8 @@ use Rattle.operations.specs.Operations.{adds}
 use Rattle.store.specs.Store.{object_of}
 use Rattle.store.specs.Layout.{word, decode, entry_start, operation_at, entry_at, object_start, additions, Packed}
 use Rattle.store.specs.Layout.{base}
-use Rattle.store.specs.Laws.Entries.{entries_from, entries_own, entries_other, entries_end}
-use Rattle.store.specs.Laws.Capacity.{additions_first}
+use Rattle.store.proofs.Laws.Entries.{entries_from, entries_own, entries_other, entries_end}
+use Rattle.store.proofs.Laws.Capacity.{additions_first}
 use Rattle.answers.specs.Answers.{rows_needed}
 use Rattle.answers.specs.Laws.Entries.{EntryOperation, needs_rows, needed_few}
 use Rattle.answers.specs.Laws.Whole.{row_count, rows_read}

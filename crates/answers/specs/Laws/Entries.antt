@@ -12,10 +12,10 @@ use Rattle.std.proofs.Math.ListN.{get_or-eq_default}
 use Rattle.operations.specs.Operations as model
 use Rattle.operations.specs.declared.Operation.{Operation}
 use Rattle.operations.specs.Stored.{operation_of}
-use Rattle.operations.specs.Laws.Cases.{split}
-use Rattle.operations.specs.Laws.Grid.{below, below_at}
+use Rattle.operations.proofs.Laws.Cases.{split}
+use Rattle.operations.proofs.Laws.Grid.{below, below_at}
 use Rattle.store.specs.Layout.{word, entry_start, operation_at, Packed, base}
-use Rattle.store.specs.Laws.Reading.{entry_named}
+use Rattle.store.proofs.Laws.Reading.{entry_named}
 use Rattle.answers.specs.Answers.{rows_for, rows_needed}
 
 needed : (o : model.Operation) → rows_needed (model.number_of o) ≡ cond (model.adds o) 1 0

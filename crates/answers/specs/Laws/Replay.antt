@@ -7,7 +7,7 @@ use Rattle.operations.specs.declared.Operation.{Operation}
 use Rattle.replay.specs.Replay.{row_of, rows_of, next_named, next_by}
 use Rattle.operations.specs.Operations.{adds}
 use Rattle.store.specs.Layout.{operation_at}
-use Rattle.store.specs.Laws.Capacity.{grows}
+use Rattle.store.proofs.Laws.Capacity.{grows}
 use Rattle.answers.specs.Laws.Entries.{EntryOperation, named}
 
 rows_counted : (rows : List (List ℕ)) (count : ℕ) → length (rows_of rows count) ≤ count

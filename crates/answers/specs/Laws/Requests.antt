@@ -8,16 +8,16 @@ use Rattle.operations.specs.declared.Operation.{Operation}
 use Rattle.operations.specs.Stored.{operation_of}
 use Rattle.operations.specs.PairRules.{recoverable}
 use Rattle.operations.specs.Log.{after}
-use Rattle.operations.specs.Laws.ObjectTypes.{EntryFits, ObjectType}
-use Rattle.operations.specs.Laws.Numbers.{numbers}
-use Rattle.operations.specs.Laws.Objects.{object, valid_next}
-use Rattle.operations.specs.Laws.Recoverability.{left_out_before}
+use Rattle.operations.proofs.Laws.ObjectTypes.{EntryFits, ObjectType}
+use Rattle.operations.proofs.Laws.Numbers.{numbers}
+use Rattle.operations.proofs.Laws.Objects.{object, valid_next}
+use Rattle.operations.proofs.Laws.Recoverability.{left_out_before}
 use Rattle.pairs.specs.Pairs.{OneKind, both, pair_of}
 use Rattle.replay.specs.Replay.{rows_of, next_named, answer_named, answer_by}
 use Rattle.store.specs.Store.{object_of, on_object}
 use Rattle.store.specs.Layout.{word, decode, entry_start, operation_at, entry_at, object_start, rows_at, additions, Packed}
 use Rattle.store.specs.Layout.{base}
-use Rattle.store.specs.Laws.Entries.{entries_from, entries_own, entries_other, entries_end}
+use Rattle.store.proofs.Laws.Entries.{entries_from, entries_own, entries_other, entries_end}
 use Rattle.store.specs.Soundness.{Room}
 use Rattle.answers.specs.Answers.{Requested}
 use Rattle.answers.specs.Laws.Entries.{EntryOperation, named}

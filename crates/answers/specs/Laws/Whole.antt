@@ -7,11 +7,11 @@ use Rattle.operations.specs.Log.{Answered}
 use Rattle.store.specs.Store.{Object, object_of}
 use Rattle.store.specs.Layout.{word, decode, base, object_start, row_at, rows_at}
 use Rattle.store.specs.Soundness.{EntriesFit, EntriesAnswered, Room}
-use Rattle.store.specs.Laws.Entries.{entries_from}
-use Rattle.store.specs.Laws.Capacity.{unkinded, past_room}
-use Rattle.store.specs.Laws.Lists.{length_tabulate}
-use Rattle.store.specs.Laws.Reading.{object_read, kind_below}
-use Rattle.store.specs.Laws.Words.{below}
+use Rattle.store.proofs.Laws.Entries.{entries_from}
+use Rattle.store.proofs.Laws.Capacity.{unkinded, past_room}
+use Rattle.store.proofs.Laws.Lists.{length_tabulate}
+use Rattle.store.proofs.Laws.Reading.{object_read, kind_below}
+use Rattle.store.proofs.Laws.Words.{below}
 
 pub row_count : (w : List ℕ) (o : ℕ) → length (rows_at w o) ≡ word w (object_start o + 1)
 row_count w o = length_tabulate (word w (object_start o + 1)) (row_at w o)

@@ -7,8 +7,8 @@ use Rattle.batches.proofs.advanced.Tie as tie
 
 returns : tie.Need-returns
 returns c =
-    let sized = c.before.next-count.ensures in
-    (ap (rows_of c.next-rows.result) sized ∙ c.next-rows.ensures, sized)
+    let sized = c.before.next_count-next.ensures in
+    (ap (rows_of c.next_rows-after.result) sized ∙ c.next_rows-after.ensures, sized)
 
 pub advanced_spec : {M : Type 1} → statement M
 advanced_spec =

@@ -3,8 +3,8 @@ use Prim.Native.Nat.{ℕ, ◌<◌}
 use mathlib.Core.Path.{sym, ap, ◌∙◌, subst}
 use borrow.Author.Rules.{rules}
 use Rattle.store.specs.Layout.{base, decode, encode, entry_at, word}
-use Rattle.store.specs.Laws.Lists.{length_tabulate}
-use Rattle.store.specs.Laws.Reading.{kind_below}
+use Rattle.store.proofs.Laws.Lists.{length_tabulate}
+use Rattle.store.proofs.Laws.Reading.{kind_below}
 use Rattle.answers.specs.Answers.{Requested}
 use Rattle.answers.specs.Laws.Requests.{answer_to_lem}
 use Rattle.waits.specs.Laws.Rules.{named}
@@ -17,7 +17,7 @@ use Rattle.batches.proofs.enter.Statement.{statement}
 use Rattle.batches.proofs.enter.Tie as tie
 
 abbrev start : tie.After-wide → tie.Start
-start c = c.before.before.before
+start c = c.before.before
 
 within : (c : tie.After-wide) → c.wide.result < 16
 within c =
@@ -25,7 +25,7 @@ within c =
     subst (λ (n : ℕ). n < 16) (sym c.wide.ensures)
     (kind_below base a.book.now a.object _ (start c).requires.accepted.kind)
 
-answer_requires : tie.Need-answer-requires
+answer_requires : tie.Need-answer-answer-requires
 answer_requires c κs =
     let e = (start c).requires in
     let a = (start c).args in
@@ -43,7 +43,7 @@ answer_requires c κs =
 append_requires : tie.Need-append-requires
 append_requires c κs =
     let begin = start c.before.before in
-    let e = begin.pre in
+    let e = begin.requires in
     let w = begin.args.book.now in (
       e.sound.packed,
       subst (λ (n : ℕ). n < 256) (length_tabulate (word w 0) (entry_at w)) e.accepted.entries,
@@ -52,11 +52,11 @@ append_requires c κs =
 
 returns : tie.Need-returns
 returns c o stored =
-    let put = c.before.before in
-    let answered = put.before.before in
-    let at = answered.before in
+    let put = c in
+    let answered = put in
+    let at = answered.before.before.before.before.before in
     let a = (start at).args in
-    let given = answered.answer.ensures
+    let given = answered.answer-answer.ensures
     ∙ answer_to_lem a.book.now at.wide.result (within at) a.requested o (named a.requested o stored)
     ∙ ap (answer_to o (decode base a.book.now)) at.wide.ensures in (
       given,

@@ -6,18 +6,18 @@ use Rattle.operations.specs.Operations.{Operation, Answer, Row, All, adds, answe
 use Rattle.operations.specs.Operations.{WellFormed, Stack}
 use Rattle.operations.specs.declared.Operation as words
 use Rattle.operations.specs.Log.{Entry, after, only, one}
-use Rattle.operations.specs.Laws.Cases.{split, same}
-use Rattle.operations.specs.Laws.ObjectTypes.{EntryFits}
-use Rattle.operations.specs.Laws.Objects.{object, valid_next}
-use Rattle.operations.specs.Laws.Recoverability.{left_out_before}
+use Rattle.operations.proofs.Laws.Cases.{split, same}
+use Rattle.operations.proofs.Laws.ObjectTypes.{EntryFits}
+use Rattle.operations.proofs.Laws.Objects.{object, valid_next}
+use Rattle.operations.proofs.Laws.Recoverability.{left_out_before}
 use Rattle.replay.specs.Replay.{rows_of, next_named, answer_named, next_by, answer_by}
 use Rattle.store.specs.Store.{Store, object_of, on_object}
 use Rattle.store.specs.Layout.{base, decode, word, entry_start, operation_at, entry_at, object_start, rows_at, additions}
 use Rattle.store.specs.Layout.{Packed}
 use Rattle.store.specs.Soundness.{Room, SoundStore}
-use Rattle.store.specs.Laws.Entries.{entries_from, entries_own, entries_other, entries_end}
-use Rattle.store.specs.Laws.Capacity.{grows, additions_first}
-use Rattle.store.specs.Laws.Changes.{on_append}
+use Rattle.store.proofs.Laws.Entries.{entries_from, entries_own, entries_other, entries_end}
+use Rattle.store.proofs.Laws.Capacity.{grows, additions_first}
+use Rattle.store.proofs.Laws.Changes.{on_append}
 use Rattle.answers.specs.Laws.Entries.{EntryOperation}
 use Rattle.answers.specs.Laws.Replay.{next_named_lem, next_grows}
 use Rattle.answers.specs.Laws.Counting.{all_rows}
@@ -26,11 +26,11 @@ use Rattle.waits.specs.Laws.Rules.{named}
 use Rattle.entry_log.specs.Log.{StoredAs}
 use Rattle.protocol.specs.Calls.{LentOperation, requested, answer_to, run}
 use Rattle.protocol.specs.Terms.{OperationAccepted, Passes}
-use Rattle.protocol.specs.Laws.Batches.{barring}
-use Rattle.protocol.specs.Laws.Waiting.{none_owned}
-use Rattle.protocol.specs.Laws.Commits.{after_append}
-use Rattle.protocol.specs.Laws.Ending.{entries_fit, after_grows, additions_parted}
-use Rattle.protocol.specs.Laws.Reasons.{request_reduced}
+use Rattle.protocol.proofs.Laws.Batches.{barring}
+use Rattle.protocol.proofs.Laws.Waiting.{none_owned}
+use Rattle.protocol.proofs.Laws.Commits.{after_append}
+use Rattle.protocol.proofs.Laws.Ending.{entries_fit, after_grows, additions_parted}
+use Rattle.protocol.proofs.Laws.Reasons.{request_reduced}
 use Rattle.batches.specs.Batches.{OwnEntry, Carried}
 
 abbrev Entries : Type 0

@@ -8,33 +8,33 @@ use Rattle.operations.specs.declared.Operation as words
 use Rattle.operations.specs.declared.Answer as answers
 use Rattle.operations.specs.Stored.{answer_of}
 use Rattle.operations.specs.PairRules.{Numbered}
-use Rattle.operations.specs.Laws.Cases.{map_set}
+use Rattle.operations.proofs.Laws.Cases.{map_set}
 use Rattle.bitset.specs.Bitset.{has, Members}
 use Rattle.bitset.specs.Laws.{joined, no_member, same_members}
 use Rattle.store.specs.Store.{Store, object_of, Active}
 use Rattle.store.specs.Layout.{base, encode, decode, word, entry_at}
 use Rattle.store.specs.Steps.{appended}
 use Rattle.store.specs.Soundness.{Sound}
-use Rattle.store.specs.Theorems.{encoded, representable, decoded, packed}
-use Rattle.store.specs.Laws.Reading.{kind_below}
-use Rattle.store.specs.Laws.Words.{below}
+use Rattle.store.proofs.Theorems.{encoded, representable, decoded, packed}
+use Rattle.store.proofs.Laws.Reading.{kind_below}
+use Rattle.store.proofs.Laws.Words.{below}
 use Rattle.answers.specs.Answers.{Requested}
 use Rattle.answers.specs.Laws.Whole.{rows_read}
 use Rattle.waits.specs.Waits.{Asked}
 use Rattle.waits.specs.Laws.Rules.{named}
 use Rattle.entry_log.specs.Log.{StoredAs, logged}
 use Rattle.replay.specs.Replay.{rows_of, next_named, answer_named}
-use Rattle.store.specs.Laws.Lists.{length_tabulate}
+use Rattle.store.proofs.Laws.Lists.{length_tabulate}
 use Rattle.protocol.specs.Calls.{LentOperation, operations_in, request, requested, answer_to, run}
 use Rattle.protocol.specs.Calls.{run_all, answers_to, awaited}
 use Rattle.protocol.specs.Terms.{OperationAccepted, EachAccepted, BatchAccepted}
 use Rattle.protocol.specs.ReplyOf.{filled}
-use Rattle.protocol.specs.Laws.Ending.{entries_fit}
-use Rattle.protocol.specs.Laws.Reasons.{request_reduced}
-use Rattle.protocol.specs.Laws.Lent.{no_operation, lent_at, lent_count, lent_at_lem, from_place, none_left, run_one_more}
-use Rattle.protocol.specs.Laws.Lent.{answers_one_more}
-use Rattle.protocol.specs.Laws.Batches.{barring, awaited_run, free_first, Kept, run_kept, run_all_log, answers_counted}
-use Rattle.protocol.specs.Laws.Kept.{encoded_sound}
+use Rattle.protocol.proofs.Laws.Ending.{entries_fit}
+use Rattle.protocol.proofs.Laws.Reasons.{request_reduced}
+use Rattle.protocol.proofs.Laws.Lent.{no_operation, lent_at, lent_count, lent_at_lem, from_place, none_left, run_one_more}
+use Rattle.protocol.proofs.Laws.Lent.{answers_one_more}
+use Rattle.protocol.proofs.Laws.Batches.{barring, awaited_run, free_first, Kept, run_kept, run_all_log, answers_counted}
+use Rattle.protocol.proofs.Laws.Kept.{encoded_sound}
 use Rattle.batches.specs.Batches.{Enterable, Carried}
 use Rattle.batches.specs.Laws.Carrying.{carried_answer, carried_room, carried_next}
 

@@ -8,7 +8,7 @@ use borrow.Rule.Slice.PartMut.{mid_of, mid_len}
 use lib.ListN.{length, take}
 use lib.Seq.{length-take-le}
 use Rattle.script.specs.Sessions.{session}
-use Rattle.script.specs.Laws.Taking.{took_some}
+use Rattle.script.proofs.Laws.Taking.{took_some}
 use Rattle.blocks.proofs.serve_block.Statement.{statement}
 use Rattle.blocks.proofs.serve_block.Tie as tie
 

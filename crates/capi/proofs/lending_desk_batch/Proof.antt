@@ -3,7 +3,7 @@ use Prim.Native.Nat.{◌≤◌}
 use mathlib.Core.Logic.{⊎_elim}
 use native.Mathlib.Omega.{arith}
 use borrow.Author.Rules.{rules}
-use Rattle.capi.specs.Laws.{few_counted, either_counted, exports_answers}
+use Rattle.capi.proofs.Laws.{few_counted, either_counted, exports_answers}
 use Rattle.capi.proofs.lending_desk_batch.Statement.{statement}
 use Rattle.capi.proofs.lending_desk_batch.Tie as tie
 

@@ -1,7 +1,7 @@
 -- `capi::lending_desk_begin`: the call, its reply written.
 use borrow.Author.Rules.{rules}
 use Rattle.capi.specs.Exported.{accepted}
-use Rattle.capi.specs.Laws.{exports}
+use Rattle.capi.proofs.Laws.{exports}
 use Rattle.capi.proofs.lending_desk_begin.Statement.{statement}
 use Rattle.capi.proofs.lending_desk_begin.Tie as tie
 

@@ -1,7 +1,7 @@
 -- `capi::lending_desk_cancel`: the call, its reply written.
 use borrow.Author.Rules.{rules}
 use Rattle.capi.specs.Exported.{ended}
-use Rattle.capi.specs.Laws.{exports}
+use Rattle.capi.proofs.Laws.{exports}
 use Rattle.capi.proofs.lending_desk_cancel.Statement.{statement}
 use Rattle.capi.proofs.lending_desk_cancel.Tie as tie
 

@@ -5,7 +5,7 @@ use native.Mathlib.Omega.{arith}
 use borrow.Author.Rules.{rules}
 use Rattle.store.specs.Layout.{object_start}
 use Rattle.codes.specs.Codes.{numbers_of}
-use Rattle.capi.specs.Laws.{within, accepted_part, refused_part}
+use Rattle.capi.proofs.Laws.{within, accepted_part, refused_part}
 use Rattle.capi.proofs.lending_desk_contents.Statement.{statement}
 use Rattle.capi.proofs.lending_desk_contents.Tie as tie
 

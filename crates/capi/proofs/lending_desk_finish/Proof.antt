@@ -1,7 +1,7 @@
 -- `capi::lending_desk_finish`: the call, its reply written.
 use borrow.Author.Rules.{rules}
 use Rattle.capi.specs.Exported.{ended}
-use Rattle.capi.specs.Laws.{exports}
+use Rattle.capi.proofs.Laws.{exports}
 use Rattle.capi.proofs.lending_desk_finish.Statement.{statement}
 use Rattle.capi.proofs.lending_desk_finish.Tie as tie
 

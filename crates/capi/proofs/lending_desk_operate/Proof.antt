@@ -1,7 +1,7 @@
 -- `capi::lending_desk_operate`: the call, its reply written.
 use borrow.Author.Rules.{rules}
 use Rattle.capi.specs.Exported.{operated}
-use Rattle.capi.specs.Laws.{exports}
+use Rattle.capi.proofs.Laws.{exports}
 use Rattle.capi.proofs.lending_desk_operate.Statement.{statement}
 use Rattle.capi.proofs.lending_desk_operate.Tie as tie
 

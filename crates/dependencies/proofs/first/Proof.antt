@@ -1,7 +1,7 @@
 -- `dependencies::first` meets its contract.
 use mathlib.Core.Path.{sym, ap}
 use Rattle.operations.specs.PairRules.{first_number}
-use Rattle.operations.specs.Laws.Numbers.{numbered_stack, numbered_set, numbered_table}
+use Rattle.operations.proofs.Laws.Numbers.{numbered_stack, numbered_set, numbered_table}
 use Rattle.dependencies.proofs.first.Statement.{statement}
 use Rattle.dependencies.proofs.first.Tie as tie
 

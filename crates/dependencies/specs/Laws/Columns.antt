@@ -8,8 +8,8 @@ use Rattle.std.proofs.Math.Dec.{eqb}
 use Rattle.operations.specs.Operations.{Kind, Stack, Set, Table}
 use Rattle.operations.specs.PairRules.{Rule, always, never, apart, equal, agreeing, Rules, rule_at, first_number}
 use Rattle.operations.specs.PairRules.{last_number, recoverable_rules, commuting_rules}
-use Rattle.operations.specs.Laws.Cases.{same}
-use Rattle.operations.specs.Laws.Grid.{below, below_at}
+use Rattle.operations.proofs.Laws.Cases.{same}
+use Rattle.operations.proofs.Laws.Grid.{below, below_at}
 use Rattle.pairs.specs.Pairs.{code_of}
 use Rattle.dependencies.specs.Dependencies.{key_column}
 

@@ -1,7 +1,7 @@
 -- Owners of entries with different items: who has another than a given one, and who has two or more.
 use Rattle.std.specs.Prelude.{ℕ, ◌+◌, ◌≡◌, true, false, ◌↔◌, ◌⊎◌, List}
 use Rattle.std.proofs.Common.{sym, ap, subst, ◌∙◌, true≢false, inl, inr, ⊎_elim, arith}
-use Rattle.operations.specs.Laws.Cases.{split, same}
+use Rattle.operations.proofs.Laws.Cases.{split, same}
 use Rattle.bitset.specs.Bitset.{has, Holds}
 use Rattle.bitset.specs.Laws.{either, but_not}
 use Rattle.representatives.specs.Representatives.{entry_transaction}

@@ -1,7 +1,7 @@
 -- An entry's owner put into the rows.
 use Rattle.std.specs.Prelude.{ℕ, ◌+◌, ◌<◌, ◌≡◌, true, false, ◌&&◌, ◌↔◌, ◌⊎◌, List, [], eqb, get_or, set, length}
 use Rattle.std.proofs.Common.{sym, ap, subst, ◌∙◌, inl, inr, ⊎_elim, arith, length-set, get_or-set_same, get_or-set_other}
-use Rattle.operations.specs.Laws.Cases
+use Rattle.operations.proofs.Laws.Cases
 use Rattle.bitset.specs.Bitset.{has, Members, In, Holds}
 use Rattle.bitset.specs.Laws.{holds_same, in_meet, in_single}
 use Rattle.pairs.specs.Pairs.{column_of}

@@ -6,13 +6,13 @@ use Rattle.std.proofs.Math.Dec.{eqb}
 use Rattle.operations.specs.Operations.{Kind, Operation, Answer, kind_of, All}
 use Rattle.operations.specs.Log.{Entry, Recovers, Recoverable}
 use Rattle.operations.specs.PairRules.{recoverable, commutes}
-use Rattle.operations.specs.Laws.Cases.{split}
-use Rattle.operations.specs.Laws.Objects.{object}
+use Rattle.operations.proofs.Laws.Cases.{split}
+use Rattle.operations.proofs.Laws.Objects.{object}
 use Rattle.store.specs.Store.{Logged, on_object}
 use Rattle.store.specs.Dependency.{Conflict, DependsOn}
 use Rattle.store.specs.Layout.{word, tabulate, entry_at, operation_at, base, decode}
 use Rattle.store.specs.Soundness.{EntriesFit, EntriesRecoverable}
-use Rattle.store.specs.Laws.Lists.{follows_some, follows_of, PairBelow}
+use Rattle.store.proofs.Laws.Lists.{follows_some, follows_of, PairBelow}
 use Rattle.representatives.specs.Representatives.{entry_transaction, entry_object}
 use Rattle.representatives.specs.Laws.Reading.{of_kind_lem}
 use Rattle.dependencies.specs.Dependencies.{Fails, BarsBelow, Unrecoverable}

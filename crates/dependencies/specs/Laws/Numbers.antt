@@ -5,8 +5,8 @@ use Rattle.std.proofs.lemmas.Bool.{eqb-false, not-false}
 use Rattle.operations.specs.Operations.{Kind, Stack, Set, Table, kind_number, Operation, key_of, value_of}
 use Rattle.operations.specs.PairRules.{Rule, always, never, apart, equal, agreeing, Rules, allows, rule_at, first_number}
 use Rattle.operations.specs.PairRules.{last_number, Numbered, kind_numbered}
-use Rattle.operations.specs.Laws.Cases.{split}
-use Rattle.operations.specs.Laws.Numbers.{within_kind}
+use Rattle.operations.proofs.Laws.Cases.{split}
+use Rattle.operations.proofs.Laws.Numbers.{within_kind}
 use Rattle.bitset.specs.Bitset.{has, Members, Holds}
 use Rattle.bitset.specs.Laws.{nobody_in, holds_none, holds_same, holds_join}
 use Rattle.pairs.specs.Pairs.{code_of, code_at, first_of, last_of, column_of}

@@ -3,7 +3,7 @@ use Rattle.std.specs.Prelude.{ℕ, ◌+◌, ◌<◌, ◌≡◌, List}
 use Rattle.std.proofs.Common.{sym, ap, subst, ◌∙◌, arith}
 use Rattle.operations.specs.Operations.{Kind, kind_of, key_of, value_of}
 use Rattle.operations.specs.PairRules.{Rules, rule_at, rule_for, first_number, last_number, Numbered, kind_numbered}
-use Rattle.operations.specs.Laws.Numbers.{kind_numbered_lem, is_numbered}
+use Rattle.operations.proofs.Laws.Numbers.{kind_numbered_lem, is_numbered}
 use Rattle.pairs.specs.Pairs.{first_of, column_of, width_of}
 use Rattle.store.specs.Layout.{word, operation_at}
 use Rattle.representatives.specs.Representatives.{entry_transaction, entry_object, entry_number, entry_key, entry_value}

@@ -2,7 +2,7 @@
 use Rattle.std.specs.Prelude.{ℕ, ◌+◌, ◌<◌, ◌≡◌, true, ◌↔◌, ◌⊎◌, List, [], get_or, replicate}
 use Rattle.std.proofs.Common.{sym, ◌∙◌, inl, inr, ⊎_elim, arith}
 use Rattle.std.proofs.lemmas.List.{length-replicate, get_or-replicate}
-use Rattle.operations.specs.Laws.Cases
+use Rattle.operations.proofs.Laws.Cases
 use Rattle.bitset.specs.Laws.{holds_none}
 use Rattle.pairs.specs.Pairs.{column_of}
 use Rattle.representatives.specs.Representatives.{entry_transaction, entry_number, entry_key, entry_value, AlikeBy}

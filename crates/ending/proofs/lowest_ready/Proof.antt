@@ -3,7 +3,7 @@ use Prim.Native.Nat.{◌≤◌}
 use mathlib.Core.Logic.{⊎_elim}
 use native.Mathlib.Omega.{arith}
 use borrow.Author.Rules.{rules}
-use Rattle.operations.specs.Laws.Cases.{denied}
+use Rattle.operations.proofs.Laws.Cases.{denied}
 use Rattle.bitset.specs.Laws.{rest_less}
 use Rattle.store.specs.Layout.{base, decode}
 use Rattle.ending.specs.Laws.Ready.{ready_tested, LeastPassed, has_rank_lem}

@@ -7,12 +7,12 @@ use Rattle.layout.specs.Laws.{tail_part}
 use Rattle.store.specs.Store.{Store, Active, pseudo_committed_count}
 use Rattle.store.specs.Dependency.{Ready}
 use Rattle.store.specs.Layout.{base, decode, encode, status_word}
-use Rattle.store.specs.Theorems.{representable}
-use Rattle.store.specs.Laws.Reading.{live_below}
-use Rattle.store.specs.Laws.Statuses.{active_apart}
+use Rattle.store.proofs.Theorems.{representable}
+use Rattle.store.proofs.Laws.Reading.{live_below}
+use Rattle.store.proofs.Laws.Statuses.{active_apart}
 use Rattle.protocol.specs.Ending.{ended, commit, Settlement, committed_first, settled_all}
-use Rattle.protocol.specs.Laws.Ranks.{ended_count}
-use Rattle.protocol.specs.Laws.Settling.{commit_count, settled_few}
+use Rattle.protocol.proofs.Laws.Ranks.{ended_count}
+use Rattle.protocol.proofs.Laws.Settling.{commit_count, settled_few}
 use Rattle.ending.specs.Ending.{Tracked, Forgotten, Concluded}
 use Rattle.ending.specs.Laws.Settling.{ended_tracked, commit_tracked}
 
@@ -48,7 +48,7 @@ itself_first r (x ∷ list) t book last count l (e, f, g) =
 
 -- ---- What is left to settle
 
--- An active one is not in the set of the pseudo_committed_lem ones.
+-- An active one is not in the set of the pseudo-committed ones.
 not_member : {w sets : List ℕ} {finished : ℕ} → Tracked w sets finished → (t : ℕ) → Active (decode base w) t
     → (u : ℕ) → In finished u ↔ (In finished u × (u ≡ t → ⊥))
 not_member {w} h t a u = (λ m. (m, active_apart (decode base w) t u a ((h.members u).0 m)), λ m. m.0)

@@ -3,7 +3,7 @@ use Rattle.std.specs.Prelude.{ℕ, ◌≡◌, List}
 use Rattle.std.proofs.Common.{sym, ap, ◌∙◌, subst}
 use Rattle.store.specs.Store.{Store}
 use Rattle.store.specs.Layout.{Packed, Representable, base, decode, encode}
-use Rattle.store.specs.Theorems.{encoded, representable, decoded, packed}
+use Rattle.store.proofs.Theorems.{encoded, representable, decoded, packed}
 
 -- The words are those of the store, which fits into a book.
 pub record Encodes (w : List ℕ) (s : Store) : Type 0 where

@@ -10,12 +10,12 @@ use Rattle.store.specs.Store.{Object, Logged, Store}
 use Rattle.store.specs.Layout.{Packed, base, decode, encode, word, entry_start, operation_at, entry_at, rows_at}
 use Rattle.store.specs.Soundness.{EntriesFit, Room}
 use Rattle.store.specs.Steps.{folded}
-use Rattle.store.specs.Theorems.{representable}
-use Rattle.store.specs.Laws.Lists.{length_tabulate}
-use Rattle.store.specs.Laws.Entries.{log_from, log_here, log_end}
-use Rattle.store.specs.Laws.Reading.{object_read, kind_below, entry_named}
+use Rattle.store.proofs.Theorems.{representable}
+use Rattle.store.proofs.Laws.Lists.{length_tabulate}
+use Rattle.store.proofs.Laws.Entries.{log_from, log_here, log_end}
+use Rattle.store.proofs.Laws.Reading.{object_read, kind_below, entry_named}
 use Rattle.protocol.specs.Ending.{carried_out, ended, commit}
-use Rattle.protocol.specs.Laws.Carrying.{Carriable, carriable, next_fits, passed, taken, carried_representable}
+use Rattle.protocol.proofs.Laws.Carrying.{Carriable, carriable, next_fits, passed, taken, carried_representable}
 use Rattle.ending.specs.Laws.Books.{Encodes, held, is_packed, is_decoded, changed}
 
 -- The book once the transaction's entries before i are carried into its rows: what is left to carry leads to what all

@@ -2,7 +2,7 @@
 use Rattle.std.specs.Prelude.{ℕ, ◌+◌, ◌<◌, ◌≤◌, ◌≡◌, refl, false, not, ◌&&◌, ◌↔◌, List, eqb, ltb, length, get_or, set}
 use Rattle.std.proofs.Common.{arith, ltb-true, ltb-false, get_or-set_same, get_or-set_other}
 use Rattle.std.proofs.Math.ListN.{get_or-eq_default}
-use Rattle.operations.specs.Laws.Cases.{split, by_key}
+use Rattle.operations.proofs.Laws.Cases.{split, by_key}
 use Rattle.bitset.specs.Bitset.{has, Members}
 use Rattle.bitset.specs.Laws.{nobody_in, in_rest}
 use Rattle.graph.specs.Edges.{EdgeIn}

@@ -1,7 +1,7 @@
--- The pseudo_committed_lem transaction of lowest rank that depends on nobody, found among all of them in turn.
+-- The pseudo-committed transaction of lowest rank that depends on nobody, found among all of them in turn.
 use Rattle.std.specs.Prelude.{ℕ, ◌+◌, ◌-◌, ◌<◌, ◌≤◌, ◌≡◌, refl, Bool, true, not, ◌&&◌, ◌↔◌, ◌⊎◌, List, eqb, ltb}
 use Rattle.std.proofs.Common.{sym, ap, ◌∙◌, subst, inl, inr, ⊎_elim, arith, ltb-true, ltb-false}
-use Rattle.operations.specs.Laws.Cases.{split, by_key}
+use Rattle.operations.proofs.Laws.Cases.{split, by_key}
 use Rattle.bitset.specs.Bitset.{has, In, Members, Holds, Represents}
 use Rattle.bitset.specs.Laws.{nobody_in, in_rest}
 use Rattle.graph.specs.Edges.{EdgeIn}
@@ -9,12 +9,12 @@ use Rattle.store.specs.Store.{pseudo_committed, Store, status_of, PseudoCommitte
 use Rattle.store.specs.Dependency.{DependsOn, Ready}
 use Rattle.store.specs.Layout.{Packed, base, decode, status_word, word}
 use Rattle.store.specs.Soundness.{OnceEach, WithoutGaps}
-use Rattle.store.specs.Theorems.{representable}
-use Rattle.store.specs.Laws.Encoding.{status_written}
-use Rattle.store.specs.Laws.Reading.{status_by_word}
+use Rattle.store.proofs.Theorems.{representable}
+use Rattle.store.proofs.Laws.Encoding.{status_written}
+use Rattle.store.proofs.Laws.Reading.{status_by_word}
 use Rattle.protocol.specs.Ending.{lowest_ready}
-use Rattle.protocol.specs.Laws.Ranks.{rank_below}
-use Rattle.protocol.specs.Laws.Settling.{lowest_found, none_ready}
+use Rattle.protocol.proofs.Laws.Ranks.{rank_below}
+use Rattle.protocol.proofs.Laws.Settling.{lowest_found, none_ready}
 use Rattle.statuses.specs.Laws.Words.{finished_read, finished_below}
 use Rattle.ending.specs.Nobody.{Names}
 
@@ -31,7 +31,7 @@ module _ (s : Store) where
       ((lowest ≡ 64) × (rank ≡ 64))
       ⊎ ((lowest < 64) × (status_of s lowest ≡ pseudo_committed rank) × Ready s.log lowest)
 
-  -- Of those that are not left, no other of a lower rank does; those that are left are pseudo_committed_lem.
+  -- Of those that are not left, no other of a lower rank does; those that are left are pseudo-committed.
   pub record LeastPassed (left lowest rank : ℕ) : Type 0 where
     pub found : Found lowest rank
     pub within : (u : ℕ) → In left u → PseudoCommitted s u
@@ -53,7 +53,7 @@ module _ (w : List ℕ) (left lowest rank : ℕ) (h : LeastPassed (decode base w
   below : next < 64
   below = finished_below w next (h.within next m)
 
-  -- The word of a pseudo_committed_lem one is its rank and 2.
+  -- The word of a pseudo-committed one is its rank and 2.
   rank_is : (r : ℕ) → status_of s next ≡ pseudo_committed r → status ≡ 2 + r
   rank_is r f =
       omega (arith, ap status_word (sym (status_by_word base w next status below e) ∙ f), status_written status)

@@ -9,12 +9,12 @@ use Rattle.store.specs.Store.{Store, PseudoCommitted, pseudo_committed_count}
 use Rattle.store.specs.Dependency.{DependsOn, Ready}
 use Rattle.store.specs.Layout.{base, decode, encode}
 use Rattle.store.specs.Soundness.{Unsettled}
-use Rattle.store.specs.Theorems.{representable}
+use Rattle.store.proofs.Theorems.{representable}
 use Rattle.protocol.specs.Ending.{ended, commit, lowest_ready, Settlement, settlement, settled_all}
 use Rattle.protocol.specs.Terms.{LowestReady}
-use Rattle.protocol.specs.Laws.Ending.{Left, ended_left, commit_left, depends_left}
-use Rattle.protocol.specs.Laws.Ending.{ended_representable, ended_unsettled, commit_representable, commit_unsettled}
-use Rattle.protocol.specs.Laws.Settling.{lowest_is, count_committed, settled_end, settled_step}
+use Rattle.protocol.proofs.Laws.Ending.{Left, ended_left, commit_left, depends_left}
+use Rattle.protocol.proofs.Laws.Ending.{ended_representable, ended_unsettled, commit_representable, commit_unsettled}
+use Rattle.protocol.proofs.Laws.Settling.{lowest_is, count_committed, settled_end, settled_step}
 use Rattle.ending.specs.Ending.{Tracked, Forgotten, Concluded}
 use Rattle.ending.specs.Laws.Books.{Encodes, held, is_packed, is_decoded, changed}
 

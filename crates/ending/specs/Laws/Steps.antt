@@ -5,11 +5,11 @@ use Rattle.bitset.specs.Laws.{bit}
 use Rattle.store.specs.Store.{Status, absent, pseudo_committed, Store, status_of, pseudo_committed_count}
 use Rattle.store.specs.Layout.{Packed, base, decode, encode, read_status, word}
 use Rattle.store.specs.Steps.{dropped, with_status, closed_up}
-use Rattle.store.specs.Laws.Changes.{representable_status, representable_dropped}
-use Rattle.store.specs.Laws.Reading.{status_by_word}
-use Rattle.store.specs.Theorems.{representable}
+use Rattle.store.proofs.Laws.Changes.{representable_status, representable_dropped}
+use Rattle.store.proofs.Laws.Reading.{status_by_word}
+use Rattle.store.proofs.Theorems.{representable}
 use Rattle.protocol.specs.Ending.{closed_after, ended}
-use Rattle.protocol.specs.Laws.Ranks.{count_within}
+use Rattle.protocol.proofs.Laws.Ranks.{count_within}
 use Rattle.statuses.specs.Laws.Words.{finished_read}
 use Rattle.ending.specs.Ending.{pseudo_commit}
 use Rattle.ending.specs.Laws.Books.{Encodes, held, is_decoded, changed}

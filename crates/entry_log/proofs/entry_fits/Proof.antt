@@ -4,7 +4,7 @@ use mathlib.Core.Bool.{true}
 use mathlib.Core.Logic.{◌↔◌}
 use borrow.Author.Rules.{rules}
 use borrow.Author.Tests.{not-true, not-false}
-use Rattle.operations.specs.Laws.Cases.{no, denied}
+use Rattle.operations.proofs.Laws.Cases.{no, denied}
 use Rattle.store.specs.Layout.{AsStored}
 use Rattle.entry_log.specs.Laws.Packing.{stored_read}
 use Rattle.entry_log.proofs.entry_fits.Statement.{statement}

@@ -4,7 +4,7 @@ use mathlib.Core.Path.{refl}
 use mathlib.Core.Logic.{inl, inr, ⊎_elim}
 use native.Mathlib.Omega.{arith}
 use borrow.Author.Tests.{ltb-true, ltb-false}
-use Rattle.operations.specs.Laws.Cases.{no}
+use Rattle.operations.proofs.Laws.Cases.{no}
 use Rattle.entry_log.specs.Laws.Packing.{masked_below, stored_tested, out_of_range}
 use Rattle.entry_log.proofs.is_stored.Statement.{statement}
 use Rattle.entry_log.proofs.is_stored.Tie as tie

@@ -1,7 +1,7 @@
 -- What the tests of each of several facts say.
 use Rattle.std.specs.Prelude.{ℕ, ◌≤◌, ◌<◌, ◌≡◌, refl, Bool, true, false, ◌↔◌}
 use Rattle.std.proofs.Common.{arith}
-use Rattle.operations.specs.Laws.Cases.{yes, no, denied}
+use Rattle.operations.proofs.Laws.Cases.{yes, no, denied}
 
 module _ (P : ℕ → Type 0) (n : ℕ) where
   abbrev pub Each : Type 0

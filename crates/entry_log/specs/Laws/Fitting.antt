@@ -2,19 +2,19 @@
 use Rattle.std.specs.Prelude.{ℕ, zero, suc, ◌+◌, ◌≤◌, ◌<◌, ◌≡◌, refl, Bool, true, false, ◌↔◌, ◌⊎◌, List, eqb, ltb}
 use Rattle.std.proofs.Common.{sym, ap, ◌∙◌, inl, inr, ⊎_elim, arith, eqb-true, eq-eqb, ltb-true, lt-ltb}
 use Rattle.std.proofs.Math.Option.{some, none-ne-some}
-use Rattle.operations.specs.Laws.Cases.{yes, no}
+use Rattle.operations.proofs.Laws.Cases.{yes, no}
 use Rattle.bitset.specs.Bitset.{has, Holds}
 use Rattle.operations.specs.Operations.{Kind, kind_number, Operation, on_stack, on_set, on_table, kind_of, key_of, reduce_key}
 use Rattle.operations.specs.Operations.{StoredKey}
 use Rattle.operations.specs.PairRules.{kind_numbered}
-use Rattle.operations.specs.Laws.Numbers.{kind_numbered_lem}
-use Rattle.operations.specs.Laws.Storing.{reduced_below}
+use Rattle.operations.proofs.Laws.Numbers.{kind_numbered_lem}
+use Rattle.operations.proofs.Laws.Storing.{reduced_below}
 use Rattle.store.specs.Store.{Object, Live, object_of, Logged}
 use Rattle.store.specs.Layout.{base, decode, word, kind_word, read_kind, object_start}
 use Rattle.store.specs.Layout.{entry_start, entry_at, operation_at, AsStored}
-use Rattle.store.specs.Laws.Lists.{all_each, all_of}
-use Rattle.store.specs.Laws.Objects.{kind_read}
-use Rattle.store.specs.Laws.Reading.{live_below, object_read, kind_below}
+use Rattle.store.proofs.Laws.Lists.{all_each, all_of}
+use Rattle.store.proofs.Laws.Objects.{kind_read}
+use Rattle.store.proofs.Laws.Reading.{live_below, object_read, kind_below}
 use Rattle.entry_log.specs.Log.{EntryLive, EntryOfKind, EntryKeyReduced, EntryAdmitted, LogFits}
 use Rattle.entry_log.specs.Laws.Checks.{Each}
 

@@ -4,17 +4,17 @@ use Rattle.std.proofs.Common.{sym, ap, ap₂, ◌∙◌, append-nil, add-one, ar
 use Rattle.std.proofs.lemmas.List.Edits.{sets}
 use Rattle.std.proofs.Math.Seq.{length-sets}
 use Rattle.operations.specs.Operations as model
-use Rattle.operations.specs.Laws.Cases.{split}
+use Rattle.operations.proofs.Laws.Cases.{split}
 use Rattle.operations.specs.Stored.{answer_of}
 use Rattle.operations.specs.declared.Operation.{Operation}
 use Rattle.operations.specs.declared.Answer.{Answer}
 use Rattle.store.specs.Store.{Logged}
 use Rattle.store.specs.Layout.{joined, tabulate, word, entry_start, entry_words, entry_at, AsStored}
 use Rattle.store.specs.Steps.{without}
-use Rattle.store.specs.Laws.Lists.{tabulate_zero, tabulate_snoc}
-use Rattle.store.specs.Laws.Words.{joined_append}
-use Rattle.store.specs.Laws.Encoding.{log_size}
-use Rattle.store.specs.Laws.Writing.{sets_past}
+use Rattle.store.proofs.Laws.Lists.{tabulate_zero, tabulate_snoc}
+use Rattle.store.proofs.Laws.Words.{joined_append}
+use Rattle.store.proofs.Laws.Encoding.{log_size}
+use Rattle.store.proofs.Laws.Writing.{sets_past}
 use Rattle.entry_log.specs.Log.{StoredAs, logged, entry_words_of, words_at, others, Compacted}
 use Rattle.entry_log.specs.Laws.Sets.{sets_append}
 

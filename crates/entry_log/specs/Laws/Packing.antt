@@ -7,7 +7,7 @@ use Rattle.std.specs.Int.Bits.{bit_and, bit_or, or_self}
 use Rattle.std.proofs.lemmas.Nat.{and_le_r}
 use Rattle.std.proofs.Math.ListN.{get_or-eq_default}
 use Rattle.operations.specs.Operations.{numbered, stored, number_of}
-use Rattle.operations.specs.Laws.Cases.{same, no}
+use Rattle.operations.proofs.Laws.Cases.{same, no}
 use Rattle.store.specs.Layout.{BookLong}
 use Rattle.store.specs.Layout.{base, word, or_pop, entry_start, ObjectPacked, AsStored, Packed}
 use Rattle.layout.specs.Laws.{or_zero_lem}

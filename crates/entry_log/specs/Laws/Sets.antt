@@ -5,7 +5,7 @@ use borrow.Rule.Slice.PartMut.{mid_of, put_mid}
 use Rattle.std.proofs.lemmas.List.{length-replicate, replicate-append-replicate}
 use Rattle.std.proofs.lemmas.List.Edits.{sets, sets-eq}
 use Rattle.store.specs.Layout.{padded}
-use Rattle.store.specs.Laws.Writing.{zeros, sets_seam}
+use Rattle.store.proofs.Laws.Writing.{zeros, sets_seam}
 
 module _ {A : Type 0} where
   pub sets_append : (l : List A) (i : ℕ) (xs ys : List A) → sets (sets l i xs) (i + length xs) ys ≡ sets l i (xs ++ ys)

@@ -5,8 +5,8 @@ use Rattle.std.proofs.lemmas.List.Edits.{sets}
 use Rattle.store.specs.Store.{Logged}
 use Rattle.store.specs.Layout.{base, encode, decode, joined, padded, word, entry_start, entry_words, Packed}
 use Rattle.store.specs.Steps.{appended, dropped}
-use Rattle.store.specs.Laws.Encoding.{log_size}
-use Rattle.store.specs.Laws.Writing.{zeros, sets_before, front, log_put, log_counted, log_parts, front_size, entry_put}
+use Rattle.store.proofs.Laws.Encoding.{log_size}
+use Rattle.store.proofs.Laws.Writing.{zeros, sets_before, front, log_put, log_counted, log_parts, front_size, entry_put}
 use Rattle.entry_log.specs.Log.{others, Compacted}
 use Rattle.entry_log.specs.Laws.Sets.{Cleared, sets_append, padded_over}
 

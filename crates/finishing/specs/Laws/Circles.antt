@@ -4,7 +4,7 @@ use Rattle.bitset.specs.Bitset.{has, In, Holds, Members, Represents}
 use Rattle.bitset.specs.Laws.{nobody_in, some_member, in_meet, holds_same}
 use Rattle.store.specs.Store.{Store, PseudoCommitted}
 use Rattle.store.specs.Dependency.{DependsOn, Leads, Predecessor, Successor, OnCycle, PRED, SUCC, Meet}
-use Rattle.store.specs.Theorems.{cycle_any_length, cycle_met}
+use Rattle.store.proofs.Theorems.{cycle_any_length, cycle_met}
 use Rattle.graph.specs.Edges.{EdgeIn}
 use Rattle.sound.specs.Laws.{way_said}
 use mathlib.Core.Logic.Iff

@@ -7,8 +7,8 @@ use Rattle.store.specs.Store.{Store, Active}
 use Rattle.store.specs.Layout.{base, encode, decode}
 use Rattle.store.specs.Dependency.{Ready, OnCycle, Predecessor, Successor}
 use Rattle.store.specs.Soundness.{Sound}
-use Rattle.store.specs.Decisions.{whether_sound}
-use Rattle.store.specs.Theorems.{representable}
+use Rattle.store.proofs.Decisions.{whether_sound}
+use Rattle.store.proofs.Theorems.{representable}
 use Rattle.graph.specs.Edges.{EdgeIn}
 use Rattle.sound.specs.Examined.{Examined}
 use Rattle.ending.specs.Ending.{Tracked, Concluded, pseudo_commit}
@@ -18,10 +18,10 @@ use Rattle.protocol.specs.Replies as replies
 use Rattle.protocol.specs.Ending.{Settlement, ended, commit, committed_first, settled_all}
 use Rattle.protocol.specs.Calls.{end_reason, finish, cancel, concluded}
 use Rattle.protocol.specs.Terms.{EndAccepted}
-use Rattle.protocol.specs.Laws.Ranks.{ended_count}
-use Rattle.protocol.specs.Laws.Settling.{commit_count, settled_few}
-use Rattle.protocol.specs.Laws.Reasons.{said_no, end_accepts}
-use Rattle.protocol.specs.Laws.Protocol.{finishing, cancelling, on_circle, on_nobody, on_others}
+use Rattle.protocol.proofs.Laws.Ranks.{ended_count}
+use Rattle.protocol.proofs.Laws.Settling.{commit_count, settled_few}
+use Rattle.protocol.proofs.Laws.Reasons.{said_no, end_accepts}
+use Rattle.protocol.proofs.Laws.Protocol.{finishing, cancelling, on_circle, on_nobody, on_others}
 use Rattle.finishing.specs.Laws.Circles.{circle_found}
 
 -- ---- Refused

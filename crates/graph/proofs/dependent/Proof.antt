@@ -1,7 +1,7 @@
 -- `graph::dependent`: those passed depend on somebody.
 use mathlib.Core.Path.{refl}
 use borrow.Author.Rules.{rules}
-use Rattle.operations.specs.Laws.Cases.{yes, no, denied}
+use Rattle.operations.proofs.Laws.Cases.{yes, no, denied}
 use Rattle.bitset.specs.Laws.{rest_less}
 use Rattle.graph.specs.Laws.Walks.{Walk, walk_begun, walk_turned, walk_ended, walk_stopped}
 use Rattle.graph.specs.Laws.Near.{Depends, somebody}

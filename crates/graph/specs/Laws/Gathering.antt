@@ -4,7 +4,7 @@ use Rattle.std.proofs.Common.{sym, subst, inl, inr, ⊎_elim}
 use Rattle.bitset.specs.Bitset.{has, Members, In, Holds}
 use Rattle.bitset.specs.Laws.{nobody_in, in_union, in_single, in_rest, part_less, holds_same}
 use Rattle.store.specs.Dependency.{Way, Leads, Predecessor, Successor}
-use Rattle.store.specs.Laws.Ways.{widened, onward, last_departure, predecessor_reversed}
+use Rattle.store.proofs.Laws.Ways.{widened, onward, last_departure, predecessor_reversed}
 use Rattle.graph.specs.Edges.{Near, Reversed}
 use mathlib.Core.Logic.Iff
 

@@ -2,11 +2,11 @@
 -- somebody is left, each leads on to another that is.
 use Rattle.std.specs.Prelude.{ℕ, zero, suc, ◌^◌, ◌<◌, ◌≡◌, true, false, ◌↔◌, eqb}
 use Rattle.std.proofs.Common.{sym, subst, ◌∙◌, true≢false, inl, inr, eq-eqb, eqb-true}
-use Rattle.operations.specs.Laws.Cases.{split}
+use Rattle.operations.proofs.Laws.Cases.{split}
 use Rattle.bitset.specs.Bitset.{has, In, Holds}
 use Rattle.bitset.specs.Laws.{nobody_in, member_below, part_less, holds_empty}
 use Rattle.store.specs.Dependency.{Way, Leads}
-use Rattle.store.specs.Laws.Ways.{widened, onward, none_lead_on}
+use Rattle.store.proofs.Laws.Ways.{widened, onward, none_lead_on}
 use Rattle.graph.specs.Edges.{Near, Reversed}
 
 module _ (Edge : ℕ → ℕ → Type 0) (finished : ℕ) where

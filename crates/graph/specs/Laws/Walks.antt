@@ -1,7 +1,7 @@
 -- Walks over a set's members: each is shown to be such, or what they contribute is collected.
 use Rattle.std.specs.Prelude.{ℕ, ◌≡◌, refl, not, ◌&&◌, ◌⊎◌, eqb}
 use Rattle.std.proofs.Common.{sym, subst, inl, inr, ⊎_elim}
-use Rattle.operations.specs.Laws.Cases.{same}
+use Rattle.operations.proofs.Laws.Cases.{same}
 use Rattle.bitset.specs.Bitset.{has, Members, In, Holds}
 use Rattle.bitset.specs.Laws.{nobody_in, in_rest, holds_none}
 

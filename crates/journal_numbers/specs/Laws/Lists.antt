@@ -2,7 +2,7 @@
 use Rattle.std.specs.Prelude.{ℕ, zero, suc, ◌+◌, ◌-◌, ◌≤◌, ◌<◌, ◌≡◌, refl, true, false, List, [], ◌∷◌, ◌++◌, ltb, length, drop, set}
 use Rattle.std.proofs.Common.{arith, sym, ap, ◌∙◌, append-nil, ltb-true, length-set}
 use Rattle.std.proofs.Math.Seq.{append_snoc}
-use Rattle.operations.specs.Laws.Cases.{split}
+use Rattle.operations.proofs.Laws.Cases.{split}
 use Rattle.journal.specs.Groups.{Read, found, bad, then, number_from, value, number, numbers}
 use Rattle.journal.specs.Coded.{front, cause_of}
 use Rattle.journal.specs.declared.Cause.{Cause}

@@ -5,7 +5,7 @@ use Rattle.std.proofs.Math.Nat.{pow-le-pow_right}
 use Rattle.std.proofs.Math.Path.{ap}
 use Rattle.std.proofs.lemmas.Bool.{eqb-false}
 use Rattle.std.proofs.Math.ListN.{drop}
-use Rattle.operations.specs.Laws.Cases.{split}
+use Rattle.operations.proofs.Laws.Cases.{split}
 use Rattle.journal.specs.Groups.{Read, found, bad, cut, long_form, width, higher, value, number_from, number}
 use Rattle.journal.specs.declared.Cause.TheVariants.{Cut, LongForm, Width}
 use Rattle.journal_numbers.specs.Parts.{Reads, itself}

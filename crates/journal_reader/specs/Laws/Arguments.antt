@@ -11,7 +11,7 @@ use Rattle.journal.specs.declared.Cause.TheVariants.{Batch}
 use Rattle.journal_numbers.specs.Parts.{Reads, itself, after}
 use Rattle.journal_reader.specs.Laws.Lengths.{numbers_length, letter_few, batch_one, Counted, arguments_counted}
 use Rattle.journal_numbers.specs.Laws.Lists.{after_none}
-use Rattle.journal.specs.Laws.Fronts.{length_front}
+use Rattle.journal.proofs.Laws.Fronts.{length_front}
 use Rattle.journal_numbers.specs.Laws.Reads.{then_then, instead, stops, goes_on}
 use Rattle.journal_numbers.specs.declared.Found.{Found}
 use Rattle.journal_numbers.specs.declared.Found.TheVariants.{Is, Bad}

@@ -2,7 +2,7 @@
 use Rattle.std.specs.Prelude.{ℕ, zero, suc, ◌+◌, ◌*◌, ◌-◌, ◌/◌, ◌≤◌, ◌≡◌, refl, true, false, cond, ◌||◌, List, [], ◌∷◌, ◌++◌, eqb, leb, length, drop}
 use Rattle.std.proofs.Common.{arith, sym, ap, ◌∙◌, leb-true, eqb-true, length-append}
 use Rattle.std.proofs.Math.Option.{Option, none, some}
-use Rattle.operations.specs.Laws.Cases.{split}
+use Rattle.operations.proofs.Laws.Cases.{split}
 use Rattle.journal.specs.Groups.{Cause, Read, found, bad, then, number, numbers, batch}
 use Rattle.journal.specs.Records.{arguments_of, is_batch, operations_of}
 use Rattle.journal.specs.Reading.{count, operations_in, arguments_in}

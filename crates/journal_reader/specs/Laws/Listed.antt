@@ -1,7 +1,7 @@
 -- What stands behind a reply code: how many, and which.
 use Rattle.std.specs.Prelude.{ℕ, ◌*◌, ◌≤◌, ◌≡◌, true, cond, List, [], eqb, length, drop}
 use Rattle.std.proofs.Common.{le_refl, arith, ◌∙◌, eq-eqb, ne_eqb}
-use Rattle.operations.specs.Laws.Cases.{same}
+use Rattle.operations.proofs.Laws.Cases.{same}
 use Rattle.bitset.specs.Bitset.{members}
 use Rattle.journal.specs.Groups.{Read, found, numbers}
 use Rattle.journal.specs.Reading.{count, owners_from}

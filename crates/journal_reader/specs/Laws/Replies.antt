@@ -1,7 +1,7 @@
 -- A record completed by its reply.
 use Rattle.std.specs.Prelude.{ℕ, ◌*◌, ◌≤◌, ◌<◌, ◌≡◌, refl, true, false, cond, List, eqb, length, drop}
 use Rattle.std.proofs.Common.{le_refl, arith, sym, ap, ◌∙◌, ne_eqb}
-use Rattle.operations.specs.Laws.Cases.{same, split}
+use Rattle.operations.proofs.Laws.Cases.{same, split}
 use Rattle.journal.specs.Groups.{Read, found, bad, then, code, list, number, numbers}
 use Rattle.journal.specs.Records as model
 use Rattle.journal.specs.Records.{is_batch, has_reply, gives, wait, answered, ended, recorded}
@@ -14,7 +14,7 @@ use Rattle.journal_reader.specs.Parts.{code_in, list_behind, list_of}
 use Rattle.journal_reader.specs.Parts.{packed, record_said, completed}
 use Rattle.journal_reader.specs.Laws.Lengths.{first_of, numbers_length}
 use Rattle.journal_numbers.specs.Laws.Lists.{number_narrow}
-use Rattle.journal.specs.Laws.Fronts.{length_front}
+use Rattle.journal.proofs.Laws.Fronts.{length_front}
 use Rattle.journal_numbers.specs.Laws.Reads.{then_then, instead, stops, goes_on}
 use Rattle.journal_reader.specs.declared.Scanned.{Scanned}
 use Rattle.journal_numbers.specs.declared.Found.{Found}

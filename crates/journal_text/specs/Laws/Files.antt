@@ -1,11 +1,11 @@
 -- What is read of a file, one record after the other: its records in turn.
 use Rattle.std.specs.Prelude.{ℕ, ◌≡◌, refl, true, List, [], ◌∷◌, ◌++◌}
 use Rattle.std.proofs.Common.{arith, sym, ap, subst, ◌∙◌, append_assoc, append-nil}
-use Rattle.operations.specs.Laws.Cases.{all_parts}
+use Rattle.operations.proofs.Laws.Cases.{all_parts}
 use Rattle.journal.specs.Groups.{Cause}
 use Rattle.journal.specs.Records.{Record, bytes_of, file, fits}
 use Rattle.journal.specs.Reading.{next, end, stopped, step}
-use Rattle.journal.specs.Laws.Files.{Fit, step_read}
+use Rattle.journal.proofs.Laws.Files.{Fit, step_read}
 use Rattle.journal_text.specs.Listed.{ReadOff, here, more}
 
 -- No record begins the bytes.

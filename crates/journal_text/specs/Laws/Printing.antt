@@ -1,17 +1,17 @@
 -- Records read one by one, and their lines put one after the other.
 use Rattle.std.specs.Prelude.{ℕ, ◌+◌, ◌-◌, ◌≤◌, ◌<◌, ◌≡◌, true, List, [], ◌∷◌, ◌++◌, length, get_or, drop}
 use Rattle.std.proofs.Common.{arith, sym, ap, subst, ◌∙◌, append_assoc, append-nil, length-append, length-drop, get_or-drop}
-use Rattle.store.specs.Laws.Lists.{tabulate_get_d, all_of}
+use Rattle.store.proofs.Laws.Lists.{tabulate_get_d, all_of}
 use Rattle.text.specs.Fields.{Put}
-use Rattle.text.specs.Laws.Putting.{nothing, then, length_put}
-use Rattle.text.specs.Laws.Tests.{left}
+use Rattle.text.proofs.Laws.Putting.{nothing, then, length_put}
+use Rattle.text.proofs.Laws.Tests.{left}
 use Rattle.journal.specs.Groups.{Read, found, bad, narrow}
 use Rattle.journal.specs.Records.{Record, numbers_of, bytes_of, shaped, fits}
 use Rattle.journal.specs.Reading.{next, step_of, step, record_in}
 use Rattle.journal.specs.Coded.{record_of}
-use Rattle.journal.specs.Laws.Groups.{Bytes}
-use Rattle.journal.specs.Laws.Accepted.{RecordRead, record_written}
-use Rattle.journal.specs.Laws.Files.{some_bytes}
+use Rattle.journal.proofs.Laws.Groups.{Bytes}
+use Rattle.journal.proofs.Laws.Accepted.{RecordRead, record_written}
+use Rattle.journal.proofs.Laws.Files.{some_bytes}
 use Rattle.journal.specs.declared.Cause.{Cause}
 use Rattle.journal_reader.specs.Said.{step_said, place_of, reading_said}
 use Rattle.journal_reader.specs.declared.Place.{Place}

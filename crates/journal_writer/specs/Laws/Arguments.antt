@@ -1,11 +1,11 @@
 -- Which numbers the arguments of a record of the code are written as.
-use Rattle.std.specs.Prelude.{ℕ, zero, suc, ◌+◌, ◌*◌, ◌-◌, ◌/◌, ◌≤◌, ◌≡◌, refl, Bool, false, cond, ◌||◌, List, [], ◌∷◌, ◌++◌, eqb, length, take, drop}
+use Rattle.std.specs.Prelude.{ℕ, suc, ◌+◌, ◌*◌, ◌-◌, ◌/◌, ◌≤◌, ◌≡◌, Bool, false, cond, ◌||◌, List, [], ◌∷◌, ◌++◌, eqb, length, take, drop}
 use Rattle.std.proofs.Common.{sym, ap, ◌∙◌, one-add, arith, length-take-le}
 use Rattle.std.proofs.Math.Path.{subst⁻¹}
-use Rattle.operations.specs.Laws.Cases.{split}
+use Rattle.operations.proofs.Laws.Cases.{split}
 use Rattle.journal.specs.Records.{arguments_of, is_batch, argument_numbers}
 use Rattle.journal.specs.Coded.{front, or_zero, argument_count}
-use Rattle.journal.specs.Laws.Fronts.{front_taken}
+use Rattle.journal.proofs.Laws.Fronts.{front_taken}
 use Rattle.journal_writer.specs.Numbers.{batch_numbers}
 
 -- The most are those of a set up.

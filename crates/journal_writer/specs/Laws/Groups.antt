@@ -1,9 +1,9 @@
 -- Numbers one behind the other: how many groups they have.
-use Rattle.std.specs.Prelude.{ℕ, ◌+◌, ◌*◌, ◌/◌, ◌%◌, ◌≤◌, ◌<◌, ◌≡◌, refl, List, [], ◌∷◌, ◌++◌, length}
+use Rattle.std.specs.Prelude.{ℕ, ◌+◌, ◌*◌, ◌/◌, ◌%◌, ◌≤◌, ◌<◌, ◌≡◌, List, [], ◌∷◌, ◌++◌, length}
 use Rattle.std.proofs.Common.{ap, ◌∙◌, arith, length-append}
 use Rattle.journal.specs.Groups.{groups, grouped}
-use Rattle.journal.specs.Laws.Groups as laws
-use Rattle.journal.specs.Laws.Groups.{at_most_five, grouped_append}
+use Rattle.journal.proofs.Laws.Groups as laws
+use Rattle.journal.proofs.Laws.Groups.{at_most_five, grouped_append}
 
 pub one_group : (n : ℕ) → n < 128 → grouped (n ∷ []) ≡ n ∷ []
 one_group n small = ap (λ (l : List ℕ). l ++ []) (laws.one_group n small)

@@ -1,7 +1,7 @@
 -- The members of a set: a group each.
 use Rattle.std.specs.Prelude.{ℕ, zero, suc, ◌+◌, ◌≤◌, ◌≡◌, refl, true, false, List, [], ◌∷◌, length}
 use Rattle.std.proofs.Common.{ap, arith}
-use Rattle.operations.specs.Laws.Cases.{split}
+use Rattle.operations.proofs.Laws.Cases.{split}
 use Rattle.bitset.specs.Bitset.{has, members_from, members}
 use Rattle.journal.specs.Groups.{grouped}
 use Rattle.journal_writer.specs.Laws.Groups.{one_group, length_both}

@@ -1,12 +1,12 @@
 -- Which reply a record of the code has, by its letter and its reply code.
 use Rattle.std.specs.Prelude.{ℕ, ◌*◌, ◌≤◌, ◌≡◌, refl, true, false, cond, List, [], ◌∷◌, length, take, drop}
 use Rattle.std.proofs.Common.{sym, ap, ap₂, ◌∙◌, arith, eq-eqb, ne_eqb}
-use Rattle.operations.specs.Laws.Cases.{split, same}
+use Rattle.operations.proofs.Laws.Cases.{split, same}
 use Rattle.bitset.specs.Bitset.{members}
 use Rattle.journal.specs.Records.{Reply, is_batch, has_reply, nothing, wait, answered, ended, reply_numbers}
 use Rattle.journal.specs.Coded.{front, answer_count, reply_of}
 use Rattle.journal_writer.specs.Numbers.{fields}
-use Rattle.journal.specs.Laws.Fronts.{length_front, front_taken}
+use Rattle.journal.proofs.Laws.Fronts.{length_front, front_taken}
 
 with_first_lem : {numbers others : List ℕ} {first code : ℕ} → numbers ≡ first ∷ others → code ≡ first
     → numbers ≡ code ∷ drop 1 numbers

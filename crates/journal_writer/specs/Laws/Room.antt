@@ -1,14 +1,14 @@
 -- A shaped record of the code has at most 488 bytes.
 use Rattle.std.specs.Prelude.{ℕ, ◌+◌, ◌*◌, ◌≤◌, ◌<◌, ◌≡◌, refl, true, false, List, [], ◌∷◌, ◌++◌, length, get_or, take, drop}
 use Rattle.std.proofs.Common.{ap, subst, arith, leb-true, eqb-true, length-drop, length-take-le}
-use Rattle.operations.specs.Laws.Cases.{split, same}
+use Rattle.operations.proofs.Laws.Cases.{split, same}
 use Rattle.bitset.specs.Bitset.{members}
 use Rattle.journal.specs.Groups.{grouped}
 use Rattle.journal.specs.Records.{arguments_of, is_batch, has_reply, gives, argument_numbers, reply_numbers}
 use Rattle.journal.specs.Coded.{front, or_zero, argument_count, answer_count}
 use Rattle.journal_writer.specs.Numbers.{Right}
 use Rattle.journal_writer.specs.Laws.Groups.{one_group, length_both, length_grouped}
-use Rattle.journal.specs.Laws.Members.{members_few}
+use Rattle.journal.proofs.Laws.Members.{members_few}
 use Rattle.journal_writer.specs.Laws.Members.{members_groups}
 use Rattle.journal_writer.specs.Laws.Arguments.{arguments_few, batch_numbers_lem, other_numbers}
 use Rattle.journal_writer.specs.Laws.Replies.{reply, no_reply, wait_numbers, answer_numbers_lem, list_numbers}

@@ -5,15 +5,15 @@ use Rattle.std.proofs.Math.Path.{subst⁻¹}
 use Rattle.std.proofs.Math.Bool.{and-true, and-false, and-eq-true_iff}
 use Rattle.std.proofs.Math.Option.{Option, none, some}
 use Rattle.std.proofs.lemmas.Bool.{lt-leb, not-true}
-use Rattle.operations.specs.Laws.Cases.{split, same}
+use Rattle.operations.proofs.Laws.Cases.{split, same}
 use Rattle.bitset.specs.Bitset.{members}
 use Rattle.protocol.specs.Calls.{operation_words, batch_limit}
 use Rattle.journal.specs.Records.{arguments_of, is_batch, has_reply, gives, operations_of, arguments_fit, reply_fits, shaped}
 use Rattle.journal.specs.Records.{wait, answered, ended}
 use Rattle.journal.specs.Coded.{front, or_zero, argument_count, answer_count, record_of}
 use Rattle.journal_writer.specs.Numbers.{fields, Right}
-use Rattle.journal.specs.Laws.Fronts.{length_front}
-use Rattle.journal.specs.Laws.Members.{members_few, members_ascending}
+use Rattle.journal.proofs.Laws.Fronts.{length_front}
+use Rattle.journal.proofs.Laws.Members.{members_few, members_ascending}
 use Rattle.journal_writer.specs.Laws.Replies.{reply, no_reply, a_wait, an_answer, an_end}
 
 -- ---- Arguments

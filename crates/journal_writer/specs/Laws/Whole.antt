@@ -6,7 +6,7 @@ use Rattle.std.proofs.Math.Bool.{◌&&◌}
 use Rattle.std.proofs.lemmas.Bool.{false≢true}
 use Rattle.std.proofs.Math.Option.{none, some}
 use Rattle.text.specs.Fields.{Put}
-use Rattle.text.specs.Laws.Putting.{then, stored}
+use Rattle.text.proofs.Laws.Putting.{then, stored}
 use Rattle.journal.specs.Groups.{narrow}
 use Rattle.journal.specs.Records.{numbers_of, bytes_of, shaped, fits, written}
 use Rattle.journal.specs.Coded.{record_of}

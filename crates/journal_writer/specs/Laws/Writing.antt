@@ -2,10 +2,10 @@
 use Rattle.std.specs.Prelude.{ℕ, ◌+◌, ◌/◌, ◌%◌, ◌≤◌, ◌<◌, ◌≡◌, refl, true, List, [], ◌∷◌, ◌++◌, length, drop, get_or, set}
 use Rattle.std.proofs.Common.{sym, ap, ◌∙◌, subst, append_assoc, append-nil, add-one, arith, lt-ltb, length-append, drop-cons}
 use Rattle.text.specs.Fields.{Put}
-use Rattle.text.specs.Laws.Putting.{nothing, then, stored, length_put}
+use Rattle.text.proofs.Laws.Putting.{nothing, then, stored, length_put}
 use Rattle.journal.specs.Groups.{grouped, narrow}
 use Rattle.journal_writer.specs.Numbers.{Wrote}
-use Rattle.journal.specs.Laws.Groups.{grouped_append, narrow_append}
+use Rattle.journal.proofs.Laws.Groups.{grouped_append, narrow_append}
 use Rattle.journal_writer.specs.Laws.Groups.{one_group, more_groups, length_both}
 
 small_number : (n : ℕ) → n < 4_294_967_296 → narrow (n ∷ []) ≡ true

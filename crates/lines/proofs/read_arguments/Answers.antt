@@ -4,8 +4,8 @@ use mathlib.Core.Path.{sym, ap, ◌∙◌}
 use mathlib.Core.Logic.{⊎_elim}
 use borrow.Author.Rules.{rules}
 use Rattle.text.specs.Fields.{number_said}
-use Rattle.lines.specs.Laws.Reading.{reading_starts, reading_goes_on, reading_ends, no_space}
-use Rattle.lines.specs.Laws.Reading.{too_many_read, no_number}
+use Rattle.lines.proofs.Laws.Reading.{reading_starts, reading_goes_on, reading_ends, no_space}
+use Rattle.lines.proofs.Laws.Reading.{too_many_read, no_number}
 use Rattle.lines.proofs.read_arguments.Goals as goal
 
 pub loop-at-init : goal.loop-at-init

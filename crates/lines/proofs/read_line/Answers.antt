@@ -1,8 +1,8 @@
 -- `lines::read_line`: the letter, and the numbers behind it.
 use mathlib.Core.Path.{◌∙◌}
 use borrow.Author.Tests.{not-true, not-false}
-use Rattle.lines.specs.Laws.Calls.{unread_says}
-use Rattle.lines.specs.Laws.Fields.{no_letter, arguments_wrong, arguments_right_lem}
+use Rattle.lines.proofs.Laws.Calls.{unread_says}
+use Rattle.lines.proofs.Laws.Fields.{no_letter, arguments_wrong, arguments_right_lem}
 use Rattle.lines.proofs.read_line.Goals as goal
 
 pub returns-then-line-eq0 : goal.returns-then-line-eq0

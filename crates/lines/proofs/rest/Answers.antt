@@ -1,5 +1,5 @@
 -- `lines::rest`: the values passed are copied.
-use Rattle.lines.specs.Laws.Batches.{copying_starts, copying_goes_on, copying_ends}
+use Rattle.lines.proofs.Laws.Batches.{copying_starts, copying_goes_on, copying_ends}
 use Rattle.lines.proofs.rest.Goals as goal
 
 pub loop-i-init : goal.loop-i-init

@@ -1,6 +1,6 @@
 -- `lines::rest`: the values passed are copied.
 use Prim.Native.Nat.{◌-◌}
-use Rattle.lines.specs.Laws.Batches.{Copied}
+use Rattle.lines.proofs.Laws.Batches.{Copied}
 use Rattle.lines.proofs.rest.Given as goal
 
 abbrev pub invariant-loop-i : goal.invariant-loop-i

@@ -1,7 +1,7 @@
 -- `lines::set_up`: the kinds below the present one are written, and none of them is too high.
 use native.Mathlib.Omega.{arith}
-use Rattle.lines.specs.Laws.Calls.{unread_says, kinds_too_many, kind_too_high}
-use Rattle.lines.specs.Laws.Calls.{writing_starts, writing_goes_on, writing_ends}
+use Rattle.lines.proofs.Laws.Calls.{unread_says, kinds_too_many, kind_too_high}
+use Rattle.lines.proofs.Laws.Calls.{writing_starts, writing_goes_on, writing_ends}
 use Rattle.lines.proofs.set_up.Goals as goal
 
 pub returns-then-count-gt-OBJECTS : goal.returns-then-count-gt-OBJECTS

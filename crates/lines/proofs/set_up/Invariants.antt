@@ -1,6 +1,6 @@
 -- `lines::set_up`: the kinds below the present one are written, and none of them is too high.
 use Prim.Native.Nat.{◌-◌}
-use Rattle.lines.specs.Laws.Calls.{KindsRead}
+use Rattle.lines.proofs.Laws.Calls.{KindsRead}
 use Rattle.lines.proofs.set_up.Given as goal
 
 abbrev pub invariant-loop-i : goal.invariant-loop-i

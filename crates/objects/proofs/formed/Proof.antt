@@ -6,7 +6,7 @@ use mathlib.Core.Logic.Iff
 use borrow.Author.Count.{below_none, below_more}
 use borrow.Author.Rules.{rules}
 use borrow.Author.Tests.{not-true, not-false}
-use Rattle.operations.specs.Laws.Cases.{yes, no, denied}
+use Rattle.operations.proofs.Laws.Cases.{yes, no, denied}
 use Rattle.objects.specs.Objects.{ObjectFormed}
 use Rattle.objects.specs.Laws.Rows.{all_formed}
 use Rattle.objects.proofs.formed.Statement.{statement}

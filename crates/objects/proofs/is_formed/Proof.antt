@@ -4,7 +4,7 @@ use Prim.Native.Nat.{ℕ}
 use mathlib.Core.Logic.Iff
 use mathlib.Core.List.{List}
 use borrow.Author.Rules.{rules}
-use Rattle.operations.specs.Laws.Cases.{yes}
+use Rattle.operations.proofs.Laws.Cases.{yes}
 use Rattle.objects.specs.Laws.Tests.{answer_first, answer_second}
 use Rattle.objects.specs.Laws.Rows.{as_stack, as_set, as_table_lem, as_none}
 use Rattle.objects.proofs.is_formed.Statement.{statement}

@@ -1,7 +1,7 @@
 -- `objects::is_in_range`: each arm is the range of its kinds.
 use mathlib.Core.Path.{refl}
 use native.Mathlib.Omega.{arith}
-use Rattle.operations.specs.Laws.Cases.{no}
+use Rattle.operations.proofs.Laws.Cases.{no}
 use Rattle.objects.specs.Laws.Ranges.{none_range, some_range}
 use Rattle.objects.proofs.is_in_range.Statement.{statement}
 use Rattle.objects.proofs.is_in_range.Tie as tie

@@ -8,7 +8,7 @@ use borrow.Author.Rules.{rules}
 use borrow.Author.Tests.{not-true, not-false}
 use lib.Dec.{ltb, leb}
 use Rattle.operations.specs.Operations.{Row}
-use Rattle.operations.specs.Laws.Cases.{yes, no}
+use Rattle.operations.proofs.Laws.Cases.{yes, no}
 use Rattle.store.specs.Layout.{word, object_start, row_at, rows_at}
 use Rattle.objects.specs.Objects.{KeyedRows}
 use Rattle.objects.specs.Laws.Rows.{Tells, keyed_none, tells_start, tells_next, keyed_last, keyed_no}

@@ -8,7 +8,7 @@ use native.Mathlib.Omega.{arith}
 use borrow.Author.Rules.{rules}
 use borrow.Author.Tests.{not-true, not-false}
 use lib.ListN.{take, drop}
-use Rattle.operations.specs.Laws.Cases.{no, denied}
+use Rattle.operations.proofs.Laws.Cases.{no, denied}
 use Rattle.store.specs.Layout.{word}
 use Rattle.objects.specs.Objects.{InRange}
 use Rattle.objects.specs.Laws.Ranges.{packed_range, packed_zeros}

@@ -5,7 +5,7 @@ use native.Mathlib.Omega.{arith}
 use borrow.Author.Count.{below_none, below_more}
 use borrow.Author.Rules.{rules}
 use borrow.Author.Tests.{not-true, not-false}
-use Rattle.operations.specs.Laws.Cases.{yes, no, denied}
+use Rattle.operations.proofs.Laws.Cases.{yes, no, denied}
 use Rattle.store.specs.Layout.{ObjectPacked}
 use Rattle.objects.proofs.packed.Statement.{statement}
 use Rattle.objects.proofs.packed.Tie as tie

@@ -15,11 +15,11 @@ use Rattle.store.specs.Store.{Object, Store, object_of}
 use Rattle.store.specs.Layout.{word, tabulate, joined, padded, status_word, kind_word, row_words, entry_words, encode}
 use Rattle.store.specs.Layout.{decode, base, read_kind, object_start, row_at, rows_at, object_words, Packed, Representable}
 use Rattle.store.specs.Steps.{with_objects, carried, folded}
-use Rattle.store.specs.Theorems.{encoded, representable}
-use Rattle.store.specs.Laws.Reading.{object_read}
-use Rattle.store.specs.Laws.Lists.{length_tabulate, get_d_tabulate, tabulate_same}
-use Rattle.store.specs.Laws.Words.{Rows, each, tabulate_list, joined_length, padded_length, padded_same}
-use Rattle.store.specs.Laws.Objects.{kind_written, rows_length, objects_rows}
+use Rattle.store.proofs.Theorems.{encoded, representable}
+use Rattle.store.proofs.Laws.Reading.{object_read}
+use Rattle.store.proofs.Laws.Lists.{length_tabulate, get_d_tabulate, tabulate_same}
+use Rattle.store.proofs.Laws.Words.{Rows, each, tabulate_list, joined_length, padded_length, padded_same}
+use Rattle.store.proofs.Laws.Objects.{kind_written, rows_length, objects_rows}
 use Rattle.layout.specs.Laws.{tail_part}
 use Rattle.objects.specs.Objects.{words_of, pairs_in, rows_in, with_rows, StartsPacked}
 use Rattle.objects.specs.Laws.Writing.{rows_count}

@@ -3,7 +3,7 @@ use Rattle.std.specs.Prelude.{ℕ, ◌+◌, ◌-◌, ◌*◌, ◌≤◌, ◌<◌
 use Rattle.std.proofs.Common.{ap, sym, ◌∙◌, arith, eqb-true, leb-true, eq-eqb, le-leb, length-take, get_or-take, get_or-drop}
 use Rattle.std.proofs.Math.ListN.{get_or-eq_default}
 use Rattle.store.specs.Layout.{word, object_start, ObjectPacked}
-use Rattle.store.specs.Laws.Words.{below}
+use Rattle.store.proofs.Laws.Words.{below}
 use Rattle.objects.specs.Objects.{InRange}
 
 module _ (k n : ℕ) where

@@ -5,13 +5,13 @@ use Rattle.std.proofs.Math.Option.{some, none-ne-some}
 use Rattle.std.proofs.lemmas.Bool.{lt-leb}
 use Rattle.std.specs.Int.Bits.{bit_or}
 use Rattle.operations.specs.Operations.{Kind, Stack, Set, Table, Row, reduce_key, All, NoValue, KeyReduced, WellFormed}
-use Rattle.operations.specs.Laws.Storing.{reduced_below}
+use Rattle.operations.proofs.Laws.Storing.{reduced_below}
 use Rattle.store.specs.Store.{Object}
 use Rattle.store.specs.Layout.{word, tabulate, base, decode, read_kind, object_start, rows_at, ObjectPacked}
 use Rattle.store.specs.Soundness.{RowsFormed}
-use Rattle.store.specs.Laws.Lists.{tabulate_zero, length_tabulate, get_d_tabulate, get_d_past, all_each, all_of}
-use Rattle.store.specs.Laws.Words.{below}
-use Rattle.store.specs.Laws.Reading.{object_read, kind_below}
+use Rattle.store.proofs.Laws.Lists.{tabulate_zero, length_tabulate, get_d_tabulate, get_d_past, all_each, all_of}
+use Rattle.store.proofs.Laws.Words.{below}
+use Rattle.store.proofs.Laws.Reading.{object_read, kind_below}
 use Rattle.layout.specs.Laws.{Seen, seen_next, seen_all}
 use Rattle.objects.specs.Objects.{KeyedRows, ObjectFormed}
 use mathlib.Core.Logic.Iff

@@ -10,9 +10,9 @@ use Rattle.replay.specs.Laws.Lists.{put_next, put_last_lem, removed_next, remove
 use Rattle.replay.specs.Laws.Numbers.{next_push}
 use Rattle.replay.specs.Laws.Positions.{row_at, there, absent, inserted_more}
 use Rattle.store.specs.Layout.{word, joined, row_words}
-use Rattle.store.specs.Laws.Lists.{length_tabulate, get_d_tabulate}
-use Rattle.store.specs.Laws.Words.{joined_append}
-use Rattle.store.specs.Laws.Objects.{rows_length}
+use Rattle.store.proofs.Laws.Lists.{length_tabulate, get_d_tabulate}
+use Rattle.store.proofs.Laws.Words.{joined_append}
+use Rattle.store.proofs.Laws.Objects.{rows_length}
 use Rattle.objects.specs.Objects.{words_of, pairs_in, rows_in, with_rows, StartsPacked}
 
 -- ---- Rows as words, and others after them

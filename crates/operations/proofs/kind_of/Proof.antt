@@ -9,8 +9,8 @@ use lib.Dec.{ltb}
 use mir.Val.{bool_byte}
 use Rattle.operations.specs.Operations.{kind_number}
 use Rattle.operations.specs.PairRules.{kind_numbered}
-use Rattle.operations.specs.Laws.Cases.{split}
-use Rattle.operations.specs.Laws.Numbers.{numbered_stack, numbered_set, numbered_table}
+use Rattle.operations.proofs.Laws.Cases.{split}
+use Rattle.operations.proofs.Laws.Numbers.{numbered_stack, numbered_set, numbered_table}
 use Rattle.operations.proofs.kind_of.Statement.{statement}
 use Rattle.operations.proofs.kind_of.Tie as tie
 

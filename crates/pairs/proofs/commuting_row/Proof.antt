@@ -3,7 +3,7 @@ use mathlib.Core.Path.{◌≡◌}
 use native.Mathlib.Omega.{arith}
 use Rattle.operations.specs.Operations.{Stack, Set, Table}
 use Rattle.operations.specs.PairRules.{OfKind, kind_numbered, commuting_rules}
-use Rattle.operations.specs.Laws.Numbers.{tells_stack, tells_set, tells_table, within_kind}
+use Rattle.operations.proofs.Laws.Numbers.{tells_stack, tells_set, tells_table, within_kind}
 use Rattle.pairs.specs.Laws.{stack_row, set_row, table_row}
 use Rattle.pairs.proofs.commuting_row.Statement.{statement}
 use Rattle.pairs.proofs.commuting_row.Tie as tie

@@ -1,7 +1,7 @@
 -- `pairs::recoverable` meets its contract: each of the three ways out has the answer of its kind's table.
 use Rattle.operations.specs.Operations.{Stack, Set, Table}
 use Rattle.operations.specs.PairRules.{recoverable_rules}
-use Rattle.operations.specs.Laws.Numbers.{tells_stack, tells_set, tells_table}
+use Rattle.operations.proofs.Laws.Numbers.{tells_stack, tells_set, tells_table}
 use Rattle.pairs.specs.Laws.{within, recoverable_keyed, decided}
 use Rattle.pairs.proofs.recoverable.Statement.{statement}
 use Rattle.pairs.proofs.recoverable.Tie as tie

@@ -6,7 +6,7 @@ use borrow.Author.Rules.{rules}
 use mathlib.Core.List.{◌∷◌}
 use lib.ListN.{length, drop, replicate}
 use Rattle.journal.specs.Coded.{front}
-use Rattle.journal.specs.Laws.Fronts.{front_first}
+use Rattle.journal.proofs.Laws.Fronts.{front_first}
 use Rattle.recording.specs.Laws.Arrays.{Copied, copying_starts, copying_goes_on, copying_ends}
 use Rattle.recording.proofs.batch_arguments.Statement.{statement}
 use Rattle.recording.proofs.batch_arguments.Tie as tie

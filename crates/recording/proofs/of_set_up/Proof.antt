@@ -3,7 +3,7 @@ use mathlib.Core.Path.{ap, ◌∙◌}
 use borrow.Author.Rules.{rules}
 use lib.ListN.{length, drop, replicate}
 use Rattle.journal.specs.Coded.{front}
-use Rattle.journal.specs.Laws.Fronts.{front_first}
+use Rattle.journal.proofs.Laws.Fronts.{front_first}
 use Rattle.recording.proofs.of_set_up.Statement.{statement}
 use Rattle.recording.proofs.of_set_up.Tie as tie
 

@@ -1,6 +1,6 @@
 -- `recording::record_of_batch`: the batch's part, completed with the reply's and the answers.
 use borrow.Author.Rules.{rules}
-use Rattle.protocol.specs.Laws.Beside.{filled_within}
+use Rattle.protocol.proofs.Laws.Beside.{filled_within}
 use Rattle.recording.specs.Laws.Replies.{batch_recorded}
 use Rattle.recording.proofs.record_of_batch.Statement.{statement}
 use Rattle.recording.proofs.record_of_batch.Tie as tie

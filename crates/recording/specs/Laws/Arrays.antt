@@ -4,8 +4,8 @@ use Rattle.std.proofs.Common.{sym, ap, ◌∙◌, append_assoc, add-one, arith, 
 use Rattle.std.proofs.Math.Seq.{paste, paste-zero, paste-suc}
 use Rattle.std.proofs.lemmas.List.Edits.{length-paste}
 use Rattle.operations.specs.declared.Answer.{Answer}
-use Rattle.protocol.specs.Laws.Beside.{front_numbers, numbers_next}
-use Rattle.journal.specs.Laws.Fronts.{front_first_taken}
+use Rattle.protocol.proofs.Laws.Beside.{front_numbers, numbers_next}
+use Rattle.journal.proofs.Laws.Fronts.{front_first_taken}
 use Rattle.recording.specs.Parts.{Begins}
 
 -- The first i of some numbers are copied over others, from a place on.

@@ -4,17 +4,17 @@ use Rattle.std.proofs.Common.{ap, ◌∙◌, arith, eq-eqb, le-leb}
 use Rattle.std.proofs.Math.Bool.{and-true, and-eq-true_iff}
 use Rattle.std.proofs.Math.Dec.{eqb-suc-zero}
 use Rattle.store.specs.Layout.{base, decode}
-use Rattle.store.specs.Decisions.{whether_sound}
+use Rattle.store.proofs.Decisions.{whether_sound}
 use Rattle.protocol.specs.Replies.{Served}
 use Rattle.protocol.specs.Call as model
 use Rattle.protocol.specs.Call.{Call, desk}
 use Rattle.protocol.specs.Calls as calls
 use Rattle.protocol.specs.Calls.{operations_in, unless, awaited, respond}
 use Rattle.protocol.specs.Calls.{set_up_reason, begin_reason, batch_reason, end_reason, contents_reason}
-use Rattle.protocol.specs.Laws.Reasons.{set_up_accepted, batch_accepted}
-use Rattle.protocol.specs.Laws.Protocol.{finish_by}
-use Rattle.protocol.specs.Laws.Batches.{answers_counted}
-use Rattle.protocol.specs.Laws.Lent.{lent_count}
+use Rattle.protocol.proofs.Laws.Reasons.{set_up_accepted, batch_accepted}
+use Rattle.protocol.proofs.Laws.Protocol.{finish_by}
+use Rattle.protocol.proofs.Laws.Batches.{answers_counted}
+use Rattle.protocol.proofs.Laws.Lent.{lent_count}
 use Rattle.journal.specs.Records.{operations_of}
 use Rattle.recording.specs.Recording.{whole, given_to}
 

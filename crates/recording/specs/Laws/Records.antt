@@ -9,14 +9,14 @@ use Rattle.protocol.specs.Replies as protocol
 use Rattle.protocol.specs.Replies.{answer_numbers}
 use Rattle.protocol.specs.ReplyOf.{answers_in}
 use Rattle.protocol.specs.Call.{Call, set_up, begin, operate, batch, finish, cancel, contents}
-use Rattle.protocol.specs.Laws.Beside.{numbers_counted}
+use Rattle.protocol.proofs.Laws.Beside.{numbers_counted}
 use Rattle.codes.specs.Codes.{numbers_of}
 use Rattle.codes.specs.declared.Numbers.{Numbers}
 use Rattle.journal.specs.Records.{Reply, nothing, wait, answered, ended, recorded, reply_fits, shaped}
 use Rattle.journal.specs.Records.{is_batch, has_reply, gives, operations_of}
 use Rattle.journal.specs.Coded.{front, argument_count, answer_count, reply_of, record_of}
 use Rattle.journal.specs.Journal.{record_with, record_of_reply}
-use Rattle.journal.specs.Laws.Members.{members_ascending, members_few}
+use Rattle.journal.proofs.Laws.Members.{members_ascending, members_few}
 use Rattle.journal.specs.declared.Record.{Record}
 use Rattle.recording.specs.Recording.{or_none, letter_of, arguments_asked, whole, given_to, Recorded}
 use Rattle.recording.specs.Parts.{operations_asked, Begins, Called, Completed}

@@ -6,13 +6,13 @@ use Rattle.std.proofs.Math.Option.{Option, none, some}
 use Rattle.std.proofs.Math.Seq.{take-nil}
 use Rattle.operations.specs.Operations as operations
 use Rattle.operations.specs.Stored.{answer_of}
-use Rattle.operations.specs.Laws.Cases.{same}
+use Rattle.operations.proofs.Laws.Cases.{same}
 use Rattle.replay.specs.Laws.Lists.{map_take}
 use Rattle.protocol.specs.Replies as protocol
 use Rattle.protocol.specs.Replies.{answer_numbers}
 use Rattle.protocol.specs.ReplyOf.{reply_with, reply_of, batched_of, answers_in, Filled}
 use Rattle.protocol.specs.Call.{Call, batch}
-use Rattle.protocol.specs.Laws.Beside.{take_min, front_numbers}
+use Rattle.protocol.proofs.Laws.Beside.{take_min, front_numbers}
 use Rattle.protocol.specs.declared.Batched.{Batched}
 use Rattle.protocol.specs.declared.Reply.{Reply}
 use Rattle.protocol.specs.declared.Reply.TheVariants.{Ok, Answered, Answers, Wait, Finished, Committed, Circle}

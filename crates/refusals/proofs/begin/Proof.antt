@@ -1,6 +1,7 @@
 -- `refusals::begin`: the tests in order.
+use mathlib.Core.Bool.{not}
 use Prim.Native.Nat.{ℕ}
-use mathlib.Core.Path.{refl, ◌∙◌}
+use mathlib.Core.Path.{refl, ◌∙◌, ap}
 use mathlib.Core.List.{List}
 use borrow.Author.Rules.{rules}
 use borrow.Author.Tests.{lt-ltb}
@@ -12,36 +13,36 @@ use Rattle.refusals.proofs.begin.Tie as tie
 abbrev book : tie.Start → List ℕ
 book c = c.args.book.now
 
-wrong_length_lem : tie.Need-returns
-wrong_length_lem c = applies _ _ (other_length (book c.before.before) c.if1.true)
+wrong_length_lem : tie.Need-returns-then-book-ne-WORDS
+wrong_length_lem c = applies _ _ (other_length (book c.before.before) c.if-book-ne-WORDS.true)
 
-unsound : tie.Need-returns-2
+unsound : tie.Need-returns-then-not-sound
 unsound c =
     let w = book c.before.before.before.before in
-    past_length w c.before.before.if1.false (applies _ _ (soundness w c.before.sound.ensures ∙ c.if2.true))
+    past_length w c.if-book-ne-WORDS.false (applies _ _ (soundness w c.sound.ensures ∙ ap not c.if-not-sound.true))
 
-above_last_lem : tie.Need-returns-3
+above_last_lem : tie.Need-returns-then-transaction-gt-LAST_TRANSACTION
 above_last_lem c =
-    let called = c.before.before in
-    let w = book called.before.before.before in
-    past_soundness w called.before.if1.false called.sound.ensures c.before.if2.false
-    (applies _ _ (lt-ltb 63 _ c.if3.true))
+    let called = c in
+    let w = book called.before.before.before.before.before in
+    past_soundness w called.if-book-ne-WORDS.false called.sound.ensures (ap not c.if-not-sound.false)
+    (applies _ _ (lt-ltb 63 _ c.if-transaction-gt-LAST_TRANSACTION.true))
 
-live : tie.Need-returns-4
+live : tie.Need-returns-then-status_word-ne-ABSENT
 live c =
-    let s = c.before.before.before in
-    let w = book s.before.before.before.before in
-    past_last w s.before.before.if1.false s.before.sound.ensures s.if2.false _
-    c.before.before.if3.false
-    (applies _ _ (already_live_lem w _ _ c.before.before.if3.false c.before.status-word.ensures c.if4.true))
+    let s = c in
+    let w = book s.before.before.before.before.before.before.before in
+    past_last w s.if-book-ne-WORDS.false s.sound.ensures (ap not s.if-not-sound.false) _
+    c.if-transaction-gt-LAST_TRANSACTION.false
+    (applies _ _ (already_live_lem w _ _ c.if-transaction-gt-LAST_TRANSACTION.false c.status_word.ensures c.if-status_word-ne-ABSENT.true))
 
-accepted : tie.Need-returns-5
+accepted : tie.Need-returns
 accepted c =
-    let s = c.before.before.before in
-    let w = book s.before.before.before.before in
-    past_last w s.before.before.if1.false s.before.sound.ensures s.if2.false _
-    c.before.before.if3.false
-    (passed _ (not_live w _ _ c.before.before.if3.false c.before.status-word.ensures c.if4.false) refl)
+    let s = c in
+    let w = book s.before.before.before.before.before.before.before in
+    past_last w s.if-book-ne-WORDS.false s.sound.ensures (ap not s.if-not-sound.false) _
+    c.if-transaction-gt-LAST_TRANSACTION.false
+    (passed _ (not_live w _ _ c.if-transaction-gt-LAST_TRANSACTION.false c.status_word.ensures c.if-status_word-ne-ABSENT.false) refl)
 
 pub begin_spec : {M : Type 1} → statement M
 begin_spec =

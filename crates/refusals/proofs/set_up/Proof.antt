@@ -8,26 +8,26 @@ use Rattle.refusals.specs.Laws.{applies, passed, other_length, bad_number, right
 use Rattle.refusals.proofs.set_up.Statement.{statement}
 use Rattle.refusals.proofs.set_up.Tie as tie
 
-wrong_length_lem : tie.Need-returns
-wrong_length_lem c = applies _ _ (other_length c.before.before.before.args.book.now c.if1.true)
+wrong_length_lem : tie.Need-returns-then-book-ne-WORDS
+wrong_length_lem c = applies _ _ (other_length c.args.book.now c.if-book-ne-WORDS.true)
 
-bad_kinds_lem : (c : tie.Joined2) → bad_kinds c.before.before.before.before.args.kinds.now ≡ true
+bad_kinds_lem : (c : tie.Joined-then-kinds-ne-OBJECTS) → bad_kinds c.args.kinds.now ≡ true
 bad_kinds_lem c =
-    let kinds = c.before.before.before.before.args.kinds.now in
-    ⊎_elim (λ w. bad_number kinds w.taken)
-    (λ w. right_number kinds w.0.left ∙ sym w.1.ensures ∙ w.2.taken) c.if2.branch
+    let kinds = c.args.kinds.now in
+    ⊎_elim (λ w. bad_number kinds w.if-kinds-ne-OBJECTS.true)
+    (λ w. right_number kinds w.if-kinds-ne-OBJECTS.false ∙ sym w.some_above.ensures ∙ w.if-some_above.true) c.then-kinds-ne-OBJECTS.branch-raw
 
-bad : tie.Need-returns-2
+bad : tie.Need-returns-then-kinds-ne-OBJECTS
 bad c =
-    past_length c.before.before.before.before.args.book.now c.before.if1.false (applies _ _ (bad_kinds_lem c))
+    past_length c.args.book.now c.if-book-ne-WORDS.false (applies _ _ (bad_kinds_lem c))
 
-accepted : tie.Need-returns-3
+accepted : tie.Need-returns
 accepted c =
-    let args = c.before.before.before.before.before.before.args in
+    let args = c.args in
     let kinds = args.kinds.now in
-    past_length args.book.now c.before.before.before.if1.false
+    past_length args.book.now c.if-book-ne-WORDS.false
     (passed _
-    (right_number kinds c.before.before.if2.false ∙ sym c.before.some-above.ensures ∙ c.if3.false) refl)
+    (right_number kinds c.if-kinds-ne-OBJECTS.false ∙ sym c.some_above.ensures ∙ c.if-some_above.false) refl)
 
 pub set_up_spec : {M : Type 1} → statement M
 set_up_spec = tie.close (tie.spec wrong_length_lem (λ c κs. search rules) bad accepted)

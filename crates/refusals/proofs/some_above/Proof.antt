@@ -8,32 +8,32 @@ use Rattle.refusals.specs.Laws.{one_above, none_above, also_below}
 use Rattle.refusals.proofs.some_above.Statement.{statement}
 use Rattle.refusals.proofs.some_above.Tie as tie
 
-abbrev invariant_loop : tie.invariant-loop
+abbrev invariant_loop : tie.invariant-loop-i
 invariant_loop kinds i₀ i-end i = (i ≤ length kinds) × ((j : ℕ) → j < i → get_or kinds j 0 ≤ 3)
 
-abbrev decreases_loop : tie.decreases-loop
+abbrev decreases_loop : tie.decreases-loop-i
 decreases_loop kinds i₀ i-end i = length kinds - i
 
-loop_holds : tie.Need-loop-init invariant_loop decreases_loop
+loop_holds : tie.Need-loop-i-init invariant_loop decreases_loop
 loop_holds c = (search rules, λ j l. absurd (not-suc-le-zero l))
 
-returns : tie.Need-returns invariant_loop decreases_loop
+returns : tie.Need-returns-then-kinds-i-gt-LAST_KIND invariant_loop decreases_loop
 returns c =
-    one_above 3 c.before.before.before.before.args.kinds.now c.before.before.before.loop.i
-    c.before.before.loop-test.true
-    c.if1.true
+    one_above 3 c.before.before.before.before.args.kinds.now c.before.before.before.loop-i.i
+    c.before.before.loop-i-test.true
+    c.if-kinds-i-gt-LAST_KIND.true
 
-loop_again : tie.Need-loop-preserved invariant_loop decreases_loop
+loop_again : tie.Need-loop-i-preserved invariant_loop decreases_loop
 loop_again c = (
   search rules,
-  also_below 3 c.before.before.before.before.args.kinds.now c.before.before.before.loop.i
-      c.before.before.before.loop.invariant.1 c.if1.false,
+  also_below 3 c.before.before.before.before.args.kinds.now c.before.before.before.loop-i.i
+      c.before.before.before.loop-i.invariant.1 c.if-kinds-i-gt-LAST_KIND.false,
 )
 
-returns_2 : tie.Need-returns-2 invariant_loop decreases_loop
+returns_2 : tie.Need-returns invariant_loop decreases_loop
 returns_2 c =
     none_above 3 c.before.before.args.kinds.now
-    (λ j l. c.before.loop.invariant.1 j (omega (arith, l, c.loop-test.false)))
+    (λ j l. c.before.loop-i.invariant.1 j (omega (arith, l, c.loop-i-test.false)))
 
 pub some_above_spec : {M : Type 1} → statement M
 some_above_spec =

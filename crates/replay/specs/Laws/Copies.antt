@@ -4,7 +4,7 @@ use Rattle.std.proofs.Common.{ap, sym, ◌∙◌, arith, length-set, length-take
 use Rattle.std.proofs.lemmas.List.{length-map}
 use Rattle.std.proofs.Math.ListN.{get_or-map}
 use Rattle.std.proofs.Math.Seq.{take-set-lt}
-use Rattle.operations.specs.Laws.Cases.{map_set}
+use Rattle.operations.proofs.Laws.Cases.{map_set}
 use Rattle.operations.specs.Operations.{found, present, inserted, deleted, modified, top_item, valued, answering}
 use Rattle.replay.specs.Replay.{row_of, rows_of, BeginsWith, position_of, put_at, removed_at}
 use Rattle.replay.specs.Laws.Lists.{put_last_lem, take_taken, map_take, map_put, map_removed, length_put}

@@ -6,7 +6,7 @@ use Rattle.std.proofs.Math.ListN.{get_or-eq_default}
 use Rattle.operations.specs.Operations.{Row, row, numbered, stored, inserted, deleted, modified, present, found}
 use Rattle.operations.specs.Operations.{top_item, flag, valued, answering}
 use Rattle.operations.specs.declared.Operation.{Operation}
-use Rattle.operations.specs.Laws.Cases.{same}
+use Rattle.operations.proofs.Laws.Cases.{same}
 use Rattle.operations.specs.Stored.{operation_of}
 use Rattle.replay.specs.Replay.{rows_of, next_named, next_by, answer_named, answer_by, BeginsWith}
 use Rattle.replay.specs.Laws.Positions.{inserted_same, inserted_more, deleted_less, deleted_same, modified_same}

@@ -3,7 +3,7 @@ use Rattle.std.specs.Prelude.{ℕ, ◌+◌, ◌-◌, ◌<◌, ◌≤◌, ◌≡�
 use Rattle.std.proofs.Common.{ap, sym, ◌∙◌, inl, inr, ⊎_elim, true≢false, add-one, arith, eq-eqb, ne_eqb, length-set, drop_of_length-le, drop-cons}
 use Rattle.std.proofs.Math.Option.{none, some}
 use Rattle.operations.specs.Operations.{Row, row, found, is_some, present, inserted, deleted, modified}
-use Rattle.operations.specs.Laws.Rows.{order, by_order_less, by_order_equal, by_order_greater}
+use Rattle.operations.proofs.Laws.Rows.{order, by_order_less, by_order_equal, by_order_greater}
 use Rattle.replay.specs.Laws.Lists.{length_put, length_removed}
 use Rattle.replay.specs.Replay.{row_of, position_of, put_at, removed_at}
 

@@ -1,7 +1,7 @@
 -- `replies::put_answer`: the code, then the value.
 use native.Mathlib.Omega.{arith}
 use mathlib.Core.List.{[], ◌∷◌}
-use Rattle.replies.specs.Laws.Printing.{field_fits, fields}
+use Rattle.replies.proofs.Laws.Printing.{field_fits, fields}
 use Rattle.replies.proofs.put_answer.Goals as goal
 
 pub put_field-end-requires : goal.put_field-end-requires

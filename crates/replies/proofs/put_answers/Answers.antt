@@ -4,8 +4,8 @@ use mathlib.Core.Path.{◌≡◌, subst}
 use native.Mathlib.Omega.{arith}
 use Rattle.text.specs.Fields.{Put}
 use Rattle.replies.specs.Printed.{spaced}
-use Rattle.protocol.specs.Laws.Beside.{front_numbers}
-use Rattle.replies.specs.Laws.Answers.{answers_start, answers_turn, answers_kept}
+use Rattle.protocol.proofs.Laws.Beside.{front_numbers}
+use Rattle.replies.proofs.Laws.Answers.{answers_start, answers_turn, answers_kept}
 use Rattle.replies.proofs.put_answers.Goals as goal
 
 pub loop-i-init : goal.loop-i-init

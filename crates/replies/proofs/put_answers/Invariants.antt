@@ -1,6 +1,6 @@
 -- `replies::put_answers`: the answers passed are put.
 use Prim.Native.Nat.{◌-◌, ◌≤◌}
-use Rattle.replies.specs.Laws.Answers.{AnswersPut}
+use Rattle.replies.proofs.Laws.Answers.{AnswersPut}
 use Rattle.replies.proofs.put_answers.Given as goal
 
 abbrev pub invariant-loop-i : goal.invariant-loop-i

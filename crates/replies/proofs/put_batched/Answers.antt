@@ -1,7 +1,7 @@
 -- `replies::put_batched`: a batch's answers behind the word; any other reply as it is.
 use native.Mathlib.Omega.{arith}
-use Rattle.protocol.specs.Laws.Beside.{filled_within}
-use Rattle.replies.specs.Laws.Answers.{word_behind, batch_put, other_put}
+use Rattle.protocol.proofs.Laws.Beside.{filled_within}
+use Rattle.replies.proofs.Laws.Answers.{word_behind, batch_put, other_put}
 use Rattle.replies.proofs.put_batched.Goals as goal
 
 pub put_answers-requires : goal.put_answers-requires

@@ -1,6 +1,6 @@
 -- `replies::put_field`: a space, then the digits.
 use native.Mathlib.Omega.{arith}
-use Rattle.replies.specs.Laws.Printing.{field_put, field_length, digits_fit}
+use Rattle.replies.proofs.Laws.Printing.{field_put, field_length, digits_fit}
 use Rattle.replies.proofs.put_field.Goals as goal
 
 pub put_decimal-requires : goal.put_decimal-requires

@@ -6,7 +6,7 @@ use native.Mathlib.Omega.{arith}
 use lib.ListN.{length}
 use Rattle.text.specs.Fields.{Put}
 use Rattle.replies.specs.Printed.{spaced}
-use Rattle.replies.specs.Laws.Printing.{Front, start, next_fits, turn, whole, kept}
+use Rattle.replies.proofs.Laws.Printing.{Front, start, next_fits, turn, whole, kept}
 use Rattle.replies.proofs.put_front.Goals as goal
 
 pub loop-i-init : goal.loop-i-init

@@ -1,6 +1,6 @@
 -- `replies::put_front`: the bytes passed are put.
 use Prim.Native.Nat.{◌-◌, ◌≤◌}
-use Rattle.replies.specs.Laws.Printing.{Front}
+use Rattle.replies.proofs.Laws.Printing.{Front}
 use Rattle.replies.proofs.put_front.Given as goal
 
 abbrev pub invariant-loop-i : goal.invariant-loop-i

@@ -1,6 +1,6 @@
 -- `replies::put_members`: the members that are not left are put.
 use Rattle.bitset.specs.Laws.{rest_less}
-use Rattle.replies.specs.Laws.Printing.{walk_start, walk_kept, walk_end, first_fits, walk_on}
+use Rattle.replies.proofs.Laws.Printing.{walk_start, walk_kept, walk_end, first_fits, walk_on}
 use Rattle.replies.proofs.put_members.Goals as goal
 
 pub loop-left-init : goal.loop-left-init

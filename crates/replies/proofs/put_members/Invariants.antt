@@ -1,5 +1,5 @@
 -- `replies::put_members`: the members that are not left are put.
-use Rattle.replies.specs.Laws.Printing.{Walked}
+use Rattle.replies.proofs.Laws.Printing.{Walked}
 use Rattle.replies.proofs.put_members.Given as goal
 
 abbrev pub invariant-loop-left : goal.invariant-loop-left

@@ -1,8 +1,8 @@
 -- `replies::put_numbers`: each case's numbers.
 use native.Mathlib.Omega.{arith}
 use Rattle.bitset.specs.Bitset.{members}
-use Rattle.text.specs.Laws.Putting.{nothing}
-use Rattle.replies.specs.Laws.Printing.{field_fits, fields, numbered}
+use Rattle.text.proofs.Laws.Putting.{nothing}
+use Rattle.replies.proofs.Laws.Printing.{field_fits, fields, numbered}
 use Rattle.replies.proofs.put_numbers.Goals as goal
 
 -- ---- A number fits

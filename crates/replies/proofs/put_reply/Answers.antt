@@ -1,9 +1,9 @@
 -- `replies::put_reply`: the word, then the numbers behind it.
 use native.Mathlib.Omega.{arith}
 use Rattle.protocol.specs.ReplyOf.{reply_of}
-use Rattle.text.specs.Laws.Putting.{then}
+use Rattle.text.proofs.Laws.Putting.{then}
 use Rattle.replies.specs.Printed.{printed}
-use Rattle.replies.specs.Laws.Printing.{word_length}
+use Rattle.replies.proofs.Laws.Printing.{word_length}
 use Rattle.replies.proofs.put_reply.Goals as goal
 
 pub put_numbers-requires : goal.put_numbers-requires

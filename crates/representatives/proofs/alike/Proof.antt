@@ -3,7 +3,7 @@ use mathlib.Core.Path.{refl, sym, ◌∙◌}
 use mathlib.Core.Bool.{true≢false}
 use borrow.Author.Rules.{rules}
 use borrow.Author.Tests.{eqb-true, eq-eqb, not-true, not-false}
-use Rattle.operations.specs.Laws.Cases.{yes, no}
+use Rattle.operations.proofs.Laws.Cases.{yes, no}
 use Rattle.representatives.specs.Representatives.{Alike}
 use Rattle.representatives.specs.Laws.Firsts.{alike_parts}
 use Rattle.representatives.proofs.alike.Statement.{statement}

@@ -2,7 +2,7 @@
 use Rattle.std.specs.Prelude.{ℕ, ◌+◌, ◌-◌, ◌<◌, ◌≡◌, refl, Bool, true, false, List, ltb, get_or, set, replicate}
 use Rattle.std.proofs.Common.{sym, subst, subst₂, ◌∙◌, arith, ltb-true, ltb-false, length-set, get_or-set_same, get_or-set_other}
 use Rattle.std.proofs.lemmas.List.{length-replicate, get_or-replicate}
-use Rattle.operations.specs.Laws.Cases.{split, same}
+use Rattle.operations.proofs.Laws.Cases.{split, same}
 use Rattle.representatives.specs.Representatives.{AlikeBy, FirstBy, RepresentativeBy, DownTo, Latest, slot_of}
 use Rattle.representatives.specs.Representatives.{slot_at, Counted, InChain, Chained}
 

@@ -2,7 +2,7 @@
 use Rattle.std.specs.Prelude.{ℕ, zero, suc, ◌-◌, ◌<◌, ◌≡◌, refl, Bool, true, false, ◌↔◌, List, ltb}
 use Rattle.std.proofs.Common.{sym, subst, ◌∙◌, arith, ltb-true, ltb-false}
 use Rattle.std.proofs.lemmas.Bool.{false≢true}
-use Rattle.operations.specs.Laws.Cases.{split, same}
+use Rattle.operations.proofs.Laws.Cases.{split, same}
 use Rattle.representatives.specs.Representatives.{entry_number, entry_value, Alike, AlikeBy, FirstBy}
 use Rattle.representatives.specs.Representatives.{RepresentativeBy, Latest}
 

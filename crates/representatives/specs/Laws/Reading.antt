@@ -6,8 +6,8 @@ use Rattle.operations.specs.Operations.{kind_of}
 use Rattle.store.specs.Store.{Logged, object_of, Live}
 use Rattle.store.specs.Layout.{word, entry_at, operation_at, base, decode, Packed}
 use Rattle.store.specs.Soundness.{EntriesLive, EntriesFit}
-use Rattle.store.specs.Laws.Lists.{all_each}
-use Rattle.store.specs.Laws.Reading.{live_below, kind_below}
+use Rattle.store.proofs.Laws.Lists.{all_each}
+use Rattle.store.proofs.Laws.Reading.{live_below, kind_below}
 use Rattle.representatives.specs.Representatives.{entry_transaction, entry_object, Readable}
 
 module _ (w : List ℕ) where

@@ -5,7 +5,7 @@ use native.Mathlib.Omega.{arith}
 use borrow.Author.Rules.{rules}
 use borrow.Author.Tests.{not-true, not-false}
 use lib.ListN.{get_or}
-use Rattle.operations.specs.Laws.Cases.{denied}
+use Rattle.operations.proofs.Laws.Cases.{denied}
 use Rattle.journal.specs.Coded.{record_of}
 use Rattle.resuming.specs.Laws.Confirming.{Stands, stands, step_as}
 use Rattle.resuming.proofs.resume.Statement.{statement}

@@ -6,19 +6,19 @@ use Rattle.std.proofs.Math.Bool.{decide}
 use Rattle.std.proofs.Math.Option.{Option, none, some, some-injective, none-ne-some}
 use Rattle.std.proofs.Math.Seq.{take-append_seam}
 use Rattle.operations.specs.Operations.{All}
-use Rattle.operations.specs.Laws.Cases.{split}
+use Rattle.operations.proofs.Laws.Cases.{split}
 use Rattle.store.specs.Store.{Store}
 use Rattle.store.specs.Layout.{base, encode, decode}
-use Rattle.store.specs.Decisions.{whether_sound, whether_on_cycle, whether_ready}
+use Rattle.store.proofs.Decisions.{whether_sound, whether_on_cycle, whether_ready}
 use Rattle.protocol.specs.Replies as protocol
 use Rattle.protocol.specs.Replies.{Served}
 use Rattle.protocol.specs.Ending.{Settlement, settled_all, committed_first, commit, ended as Ended}
 use Rattle.protocol.specs.Calls.{some_above, too_many, finish_active, end_reason}
 use Rattle.protocol.specs.Call.{Call, set_up, begin, operate, batch, finish, cancel, contents, desk, reason_of}
-use Rattle.protocol.specs.Theorems.{refused_untouched, contents_leaves}
-use Rattle.protocol.specs.Laws.Reasons.{set_up_accepted, batch_accepted, end_accepted, end_accepts, too_many_lem}
-use Rattle.protocol.specs.Laws.Protocol.{finishing, cancelling}
-use Rattle.protocol.specs.Laws.Leaving.{no_reason, refused_or_accepted}
+use Rattle.protocol.proofs.Theorems.{refused_untouched, contents_leaves}
+use Rattle.protocol.proofs.Laws.Reasons.{set_up_accepted, batch_accepted, end_accepted, end_accepts, too_many_lem}
+use Rattle.protocol.proofs.Laws.Protocol.{finishing, cancelling}
+use Rattle.protocol.proofs.Laws.Leaving.{no_reason, refused_or_accepted}
 use Rattle.lines.specs.Lines.{lent, set_up_of, batch_of, asked}
 use Rattle.journal.specs.Records.{Reply, ended, Record, recorded}
 use Rattle.journal.specs.Journal.{record_with, record_of_reply, record_of, noted}

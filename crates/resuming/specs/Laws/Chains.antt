@@ -6,7 +6,7 @@ use Rattle.protocol.specs.Call.{Call, desk}
 use Rattle.history.specs.History.{book_after}
 use Rattle.journal.specs.Records.{Record, bytes_of, file, fits}
 use Rattle.journal.specs.Journal.{record_of, noted, journal}
-use Rattle.journal.specs.Laws.Files.{Fit, step_read}
+use Rattle.journal.proofs.Laws.Files.{Fit, step_read}
 use Rattle.journal.specs.declared.Cause.{Cause}
 use Rattle.resuming.specs.Resuming.{Confirmed, Replayed, here, more, Found, Ended}
 use Rattle.resuming.specs.Laws.Again.{again, unrecorded_kept}

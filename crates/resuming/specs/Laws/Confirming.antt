@@ -2,7 +2,7 @@
 use Rattle.std.specs.Prelude.{ℕ, suc, ◌+◌, ◌-◌, ◌≤◌, ◌<◌, ◌≡◌, refl, Bool, true, false, ◌↔◌, List, [], ◌∷◌, length, get_or, take, drop}
 use Rattle.std.proofs.Common.{sym, ap, ◌∙◌, subst, true≢false, append-nil, arith, eqb-true, length-append, length-drop, take_at, get_or-drop}
 use Rattle.std.proofs.Math.Option.{Option, none, some}
-use Rattle.operations.specs.Laws.Cases.{split}
+use Rattle.operations.proofs.Laws.Cases.{split}
 use Rattle.protocol.specs.Call.{Call}
 use Rattle.lines.specs.Lines.{asked}
 use Rattle.lines.specs.declared.Line.{Line}
@@ -10,13 +10,13 @@ use Rattle.journal.specs.Records as model
 use Rattle.journal.specs.Records.{arguments_of, is_batch, arguments_fit, bytes_of, file, fits}
 use Rattle.journal.specs.Reading.{next, step}
 use Rattle.journal.specs.Coded.{front, argument_count, record_of}
-use Rattle.journal.specs.Theorems.{one_file}
-use Rattle.journal.specs.Laws.Fronts.{length_front, front_taken}
-use Rattle.journal.specs.Laws.Letters.{few_arguments}
-use Rattle.journal.specs.Laws.ReadBack.{batch_shape, plain_count, fitting}
-use Rattle.journal.specs.Laws.Groups.{Bytes}
-use Rattle.journal.specs.Laws.Accepted.{record_written}
-use Rattle.journal.specs.Laws.Files.{some_bytes}
+use Rattle.journal.proofs.Theorems.{one_file}
+use Rattle.journal.proofs.Laws.Fronts.{length_front, front_taken}
+use Rattle.journal.proofs.Laws.Letters.{few_arguments}
+use Rattle.journal.proofs.Laws.ReadBack.{batch_shape, plain_count, fitting}
+use Rattle.journal.proofs.Laws.Groups.{Bytes}
+use Rattle.journal.proofs.Laws.Accepted.{record_written}
+use Rattle.journal.proofs.Laws.Files.{some_bytes}
 use Rattle.journal.specs.declared.Record.{Record}
 use Rattle.journal_reader.specs.Said.{step_said, place_of, reading_said}
 use Rattle.journal_reader.specs.declared.Place.{Place}

@@ -1,7 +1,7 @@
 -- Replaying has no choice: of two replays of the same bytes from the same book, one goes on where the other stops.
 use Rattle.std.specs.Prelude.{ℕ, ◌≡◌, refl, ◌⊎◌, List, [], ◌∷◌, drop}
 use Rattle.std.proofs.Common.{sym, ap, ◌∙◌, subst, inl, inr, ⊎_elim}
-use Rattle.protocol.specs.Laws.Protocol.{clash}
+use Rattle.protocol.proofs.Laws.Protocol.{clash}
 use Rattle.journal.specs.Groups as groups
 use Rattle.journal.specs.Records.{Record}
 use Rattle.journal.specs.Reading.{step, next, end, stopped}

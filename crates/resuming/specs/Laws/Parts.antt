@@ -1,11 +1,11 @@
 -- More bytes behind those that are replayed.
 use Rattle.std.specs.Prelude.{ℕ, ◌≡◌, List, [], ◌∷◌, ◌++◌}
 use Rattle.std.proofs.Common.{ap, subst}
-use Rattle.protocol.specs.Laws.Protocol.{clash}
+use Rattle.protocol.proofs.Laws.Protocol.{clash}
 use Rattle.journal.specs.Groups.{Read, found, bad}
 use Rattle.journal.specs.Records.{Record}
 use Rattle.journal.specs.Reading.{record_in, next, step, step_of}
-use Rattle.journal.specs.Laws.Cuts.{Grown, record_grown}
+use Rattle.journal.proofs.Laws.Cuts.{Grown, record_grown}
 use Rattle.resuming.specs.Resuming.{Confirmed, Replayed, here, more}
 
 found_of : (x : Read Record) {r : Record} {rest : List ℕ} → step_of x ≡ next r rest → x ≡ found r rest

@@ -2,59 +2,59 @@
 use mathlib.Core.Path.{sym, ◌∙◌}
 use borrow.Author.Rules.{rules}
 use Rattle.store.specs.Layout.{base}
-use Rattle.store.specs.Decisions.{whether_sound}
+use Rattle.store.proofs.Decisions.{whether_sound}
 use Rattle.protocol.specs.Terms.{BatchAccepted}
-use Rattle.protocol.specs.Laws.Reasons.{batch_accepted}
+use Rattle.protocol.proofs.Laws.Reasons.{batch_accepted}
 use Rattle.scheduler.specs.Laws.Serving.{leaves_refused, leaves_waiting, leaves_answered}
 use Rattle.scheduler.proofs.batch.Statement.{statement}
 use Rattle.scheduler.proofs.batch.Tie as tie
 
-abbrev start : tie.After-batch → tie.Start
-start c = c.before.before.before.before
+abbrev start : tie.After-batch-reason → tie.Start
+start c = c.before.before.before
 
-refused : tie.Need-returns
+refused : tie.Need-returns-then-reason-ne-ACCEPTED
 refused c =
     let called = c.before.before in
     let a = (start called).args in
-    leaves_refused a.book.now a.transaction a.operations.now _ called.batch.ensures
-    c.unanswered.result c.unanswered.ensures c.before.if1.true
+    leaves_refused a.book.now a.transaction a.operations.now _ called.batch-reason.ensures
+    c.unanswered.result c.unanswered.ensures c.if-reason-ne-ACCEPTED.true
 
-is_accepted : (c : tie.Else1) → let a = (start c.before).args in
+is_accepted : (c : tie.Else-reason-ne-ACCEPTED) → let a = (start c.before).args in
     BatchAccepted base a.book.now a.transaction a.operations.now
 is_accepted c =
     let a = (start c.before).args in
     batch_accepted base whether_sound a.book.now a.transaction a.operations.now
-    (sym c.before.batch.ensures ∙ c.if1.false)
+    (sym c.batch-reason.ensures ∙ c.if-reason-ne-ACCEPTED.false)
 
-owners_requires : tie.Need-owners-requires
-owners_requires c κs = is_accepted c.before
+owners_requires : tie.Need-owners-owners-requires
+owners_requires c κs = is_accepted c
 
-waits : tie.Need-returns-2
+waits : tie.Need-returns-then-owners-ne0
 waits c =
-    let sized = c.before in
-    let scanned = sized.before.before in
-    let past = scanned.before.before in
-    let a = (start past.before).args in
-    leaves_waiting a.book.now a.transaction a.operations.now _ past.before.batch.ensures
-    past.if1.false _ scanned.owners.ensures c.unanswered2.result _ c.unanswered2.ensures
-    sized.before.if2.true
+    let sized = c in
+    let scanned = sized in
+    let past = scanned in
+    let a = (start past.before.before.before.before.before).args in
+    leaves_waiting a.book.now a.transaction a.operations.now _ past.batch-reason.ensures
+    past.if-reason-ne-ACCEPTED.false _ scanned.owners-owners.ensures c.unanswered-then-owners-ne0.result _ c.unanswered-then-owners-ne0.ensures
+    sized.if-owners-ne0.true
     sized.size.ensures
 
-enter_each_requires : tie.Need-enter-each-requires
+enter_each_requires : tie.Need-enter_each-requires
 enter_each_requires c κs =
-    let scanned = c.before.before in
-    (is_accepted scanned.before.before, sym scanned.owners.ensures ∙ c.before.if2.false)
+    let scanned = c in
+    (is_accepted scanned.before.before.before, sym scanned.owners-owners.ensures ∙ c.if-owners-ne0.false)
 
-answers : tie.Need-returns-3
+answers : tie.Need-returns
 answers c =
-    let entered = c.before.before in
-    let passed = entered.before.before in
-    let scanned = passed.before in
-    let past = scanned.before.before in
-    let a = (start past.before).args in
-    leaves_answered a.book.now a.transaction a.operations.now _ past.before.batch.ensures
-    past.if1.false _ scanned.owners.ensures passed.if2.false entered.enter-each.result _
-    entered.enter-each.ensures.0 entered.enter-each.ensures.1
+    let entered = c in
+    let passed = entered in
+    let scanned = passed in
+    let past = scanned in
+    let a = (start past.before.before.before.before.before.before.before).args in
+    leaves_answered a.book.now a.transaction a.operations.now _ past.batch-reason.ensures
+    past.if-reason-ne-ACCEPTED.false _ scanned.owners-owners.ensures passed.if-owners-ne0.false entered.enter_each.result _
+    entered.enter_each.ensures.0 entered.enter_each.ensures.1
 
 pub batch_spec : {M : Type 1} → statement M
 batch_spec =

@@ -4,14 +4,14 @@ use Rattle.std.proofs.Common.{sym, ap, ◌∙◌, subst, not-suc-le-zero, arith,
 use Rattle.std.proofs.lemmas.List.{length-map, length-replicate, get_or-replicate}
 use Rattle.std.proofs.Math.ListN.{get_or-map}
 use Rattle.operations.specs.Operations.{All}
-use Rattle.operations.specs.Laws.Cases.{same}
+use Rattle.operations.proofs.Laws.Cases.{same}
 use Rattle.store.specs.Layout.{BookLong}
 use Rattle.store.specs.Store.{absent, Object}
 use Rattle.store.specs.Layout.{base, word, tabulate, encode, decode, read_status, read_kind, status_at, object_start}
 use Rattle.store.specs.Layout.{read_object, row_at, rows_at, entry_at, ObjectPacked, Packed}
-use Rattle.store.specs.Theorems.{encoded}
-use Rattle.store.specs.Laws.Lists.{tabulate_zero}
-use Rattle.store.specs.Laws.Words.{below, zeros_word, all_get_d, tabulate_list}
+use Rattle.store.proofs.Theorems.{encoded}
+use Rattle.store.proofs.Laws.Lists.{tabulate_zero}
+use Rattle.store.proofs.Laws.Words.{below, zeros_word, all_get_d, tabulate_list}
 use Rattle.protocol.specs.Calls.{empty}
 
 -- The kinds of the first n objects stand, and all else is 0.

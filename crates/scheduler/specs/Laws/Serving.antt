@@ -10,19 +10,19 @@ use Rattle.operations.specs.declared.Answer as answers
 use Rattle.operations.specs.Stored.{answer_of}
 use Rattle.store.specs.Store.{active, object_of, on_object}
 use Rattle.store.specs.Layout.{base, encode, decode, object_start, joined, row_words}
-use Rattle.store.specs.Decisions.{whether_sound}
+use Rattle.store.proofs.Decisions.{whether_sound}
 use Rattle.store.specs.Steps.{with_status}
 use Rattle.bitset.specs.Bitset.{size}
 use Rattle.protocol.specs.Replies.{ok, answered, wait, counted, refused, outcome, Served, served}
 use Rattle.protocol.specs.Calls.{LentOperation}
 use Rattle.protocol.specs.Calls as calls
-use Rattle.protocol.specs.Laws.Leaving.{counted_part}
+use Rattle.protocol.proofs.Laws.Leaving.{counted_part}
 use Rattle.protocol.specs.ReplyOf.{batched_of, filled, Filled}
 use Rattle.protocol.specs.declared.Batched.{Batched}
 use Rattle.protocol.specs.declared.Reply.TheVariants.{Answers, Wait, Refused}
-use Rattle.protocol.specs.Laws.Reasons.{unless_accepted, said_no}
-use Rattle.protocol.specs.Laws.Batches.{answers_counted}
-use Rattle.protocol.specs.Laws.Lent.{lent_count}
+use Rattle.protocol.proofs.Laws.Reasons.{unless_accepted, said_no}
+use Rattle.protocol.proofs.Laws.Batches.{answers_counted}
+use Rattle.protocol.proofs.Laws.Lent.{lent_count}
 use Rattle.scheduler.specs.Unanswered.{unanswered}
 
 module _ (n reason : ℕ) (found : reason ≡ n) (w list : List ℕ) (s : Served) where

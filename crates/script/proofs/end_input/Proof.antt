@@ -1,7 +1,7 @@
 -- `script::end_input`: nothing, or the reply to the line that was begun.
 use native.Mathlib.Omega.{arith}
 use borrow.Author.Rules.{rules}
-use Rattle.script.specs.Laws.Closing.{closed_empty, closed_line}
+use Rattle.script.proofs.Laws.Closing.{closed_empty, closed_line}
 use Rattle.script.proofs.end_input.Statement.{statement}
 use Rattle.script.proofs.end_input.Tie as tie
 

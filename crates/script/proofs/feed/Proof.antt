@@ -6,8 +6,8 @@ use borrow.Author.Rules.{rules}
 use lib.ListN.{length, take}
 use Rattle.script.specs.Sessions.{session}
 use Rattle.script.specs.Feeding.{Took, begun}
-use Rattle.script.specs.Laws.Issuing.{put_length}
-use Rattle.script.specs.Laws.Taking.{took_nothing, took_more, stopped}
+use Rattle.script.proofs.Laws.Issuing.{put_length}
+use Rattle.script.proofs.Laws.Taking.{took_nothing, took_more, stopped}
 use Rattle.script.proofs.feed.Statement.{statement}
 use Rattle.script.proofs.feed.Tie as tie
 

@@ -4,7 +4,7 @@ use mathlib.Core.Path.{refl}
 use native.Mathlib.Omega.{arith}
 use borrow.Author.Rules.{rules}
 use borrow.Author.Tests.{leb-true, le-leb}
-use Rattle.operations.specs.Laws.Cases.{no}
+use Rattle.operations.proofs.Laws.Cases.{no}
 use Rattle.script.proofs.goes_on.Statement.{statement}
 use Rattle.script.proofs.goes_on.Tie as tie
 

@@ -3,7 +3,7 @@ use mathlib.Core.Path.{sym}
 use native.Mathlib.Omega.{arith}
 use borrow.Author.Rules.{rules}
 use lib.Seq.{length-take-le}
-use Rattle.script.specs.Laws.Taking.{kept_all, kept_some}
+use Rattle.script.proofs.Laws.Taking.{kept_all, kept_some}
 use Rattle.script.proofs.keep.Statement.{statement}
 use Rattle.script.proofs.keep.Tie as tie
 

@@ -3,7 +3,7 @@ use mathlib.Core.Path.{sym}
 use native.Mathlib.Omega.{arith}
 use borrow.Author.Rules.{rules}
 use lib.Seq.{length-take-le}
-use Rattle.script.specs.Laws.Taking.{took_rest, took_line}
+use Rattle.script.proofs.Laws.Taking.{took_rest, took_line}
 use Rattle.script.proofs.take_line.Statement.{statement}
 use Rattle.script.proofs.take_line.Tie as tie
 

@@ -6,9 +6,9 @@ use Rattle.std.proofs.Math.Option.{Option, none, some}
 use Rattle.operations.specs.Operations.{Stack, Row, answering, flag, valued, setInsert, setDelete, member, table_insert}
 use Rattle.operations.specs.Operations.{tableDelete, lookup, size, modify, Operation, on_stack, on_set, on_table, kind_of}
 use Rattle.operations.specs.Operations.{key_of, value_of, number_of, next, answer, found, is_some}
-use Rattle.operations.specs.Laws.Rows.{order, by_order_less, by_order_equal, by_order_greater, rows_at, alter, kept}
-use Rattle.operations.specs.Laws.Rows.{dropped, replaced, inserted_alters, deleted_alters, modified_alters, alter_at}
-use Rattle.operations.specs.Laws.Rows.{alter_apart, alter_ascending}
+use Rattle.operations.proofs.Laws.Rows.{order, by_order_less, by_order_equal, by_order_greater, rows_at, alter, kept}
+use Rattle.operations.proofs.Laws.Rows.{dropped, replaced, inserted_alters, deleted_alters, modified_alters, alter_at}
+use Rattle.operations.proofs.Laws.Rows.{alter_apart, alter_ascending}
 use Rattle.states.specs.States.{state_after, count_after, keyed_answer, Ordered}
 
 -- ---- Answers of lookup

@@ -5,14 +5,14 @@ use Rattle.std.proofs.lemmas.Bool.{not-true, not-false}
 use Rattle.operations.specs.Operations.{number_of}
 use Rattle.operations.specs.PairRules.{last_number, kind_numbered}
 use Rattle.operations.specs.declared.Operation.{Operation}
-use Rattle.operations.specs.Laws.Cases.{same, yes, no}
-use Rattle.operations.specs.Laws.Numbers.{numbered_stack, numbers, kind_numbered_lem}
+use Rattle.operations.proofs.Laws.Cases.{same, yes, no}
+use Rattle.operations.proofs.Laws.Numbers.{numbered_stack, numbers, kind_numbered_lem}
 use Rattle.store.specs.Layout.{word, decode, operation_at, object_start, base}
 use Rattle.store.specs.Soundness.{EntriesAnswered, Room}
 use Rattle.representatives.specs.Representatives.{entry_number}
 use Rattle.answers.specs.Answers.{rows_needed}
 use Rattle.answers.specs.Laws.Entries.{EntryOperation, needed_few}
-use Rattle.store.specs.Laws.Entries.{entries_end}
+use Rattle.store.proofs.Laws.Entries.{entries_end}
 use Rattle.answers.specs.Laws.Counting.{Counting, count_start, count_past, count_own, count_end}
 use Rattle.answers.specs.Laws.Whole.{all_room, all_answered, each_answered}
 use Rattle.states.specs.States.{Sized, Serving, Formed, EntryOn, KeyedEntry, StackEntry, ToServe, AfterEntry}

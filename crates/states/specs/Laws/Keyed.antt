@@ -8,7 +8,7 @@ use Rattle.operations.specs.Operations.{kind_of, number_of, key_of, value_of, As
 use Rattle.operations.specs.declared.Operation as code
 use Rattle.operations.specs.declared.Answer as coded
 use Rattle.operations.specs.Stored.{answer_of}
-use Rattle.operations.specs.Laws.Cases.{split, same, denied}
+use Rattle.operations.proofs.Laws.Cases.{split, same, denied}
 use Rattle.store.specs.Layout.{operation_at, rows_at}
 use Rattle.representatives.specs.Representatives.{entry_object, entry_key, First}
 use Rattle.representatives.specs.Laws.Firsts.{firsts_apart}

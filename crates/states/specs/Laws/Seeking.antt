@@ -3,9 +3,9 @@ use Rattle.std.specs.Prelude.{ℕ, zero, suc, ◌+◌, ◌-◌, ◌≤◌, ◌<�
 use Rattle.std.proofs.Common.{sym, ap, ◌∙◌, arith}
 use Rattle.std.proofs.Math.Option.{none, some}
 use Rattle.operations.specs.Operations.{Row, answering, valued, found, Ascending}
-use Rattle.operations.specs.Laws.Rows.{order, by_order_less, by_order_equal, by_order_greater}
+use Rattle.operations.proofs.Laws.Rows.{order, by_order_less, by_order_equal, by_order_greater}
 use Rattle.store.specs.Layout.{word, tabulate, object_start, row_at, rows_at}
-use Rattle.store.specs.Laws.Lists.{all_each}
+use Rattle.store.proofs.Laws.Lists.{all_each}
 
 -- ---- Rows by place
 

@@ -8,14 +8,14 @@ use Rattle.operations.specs.Log.{Answered}
 use Rattle.operations.specs.declared.Operation as code
 use Rattle.operations.specs.declared.Answer as coded
 use Rattle.operations.specs.Stored.{answer_of}
-use Rattle.operations.specs.Laws.Cases.{same}
+use Rattle.operations.proofs.Laws.Cases.{same}
 use Rattle.operations.specs.Operations.{adds}
 use Rattle.store.specs.Layout.{word, entry_start, operation_at, entry_at, rows_at, base}
-use Rattle.store.specs.Laws.Reading.{kind_below}
-use Rattle.store.specs.Laws.Capacity.{grows}
+use Rattle.store.proofs.Laws.Reading.{kind_below}
+use Rattle.store.proofs.Laws.Capacity.{grows}
 use Rattle.representatives.specs.Representatives.{entry_number, entry_key}
 use Rattle.representatives.specs.Laws.Reading.{of_kind_lem}
-use Rattle.store.specs.Laws.Entries.{entries_from, entries_own, entries_other, entries_end}
+use Rattle.store.proofs.Laws.Entries.{entries_from, entries_own, entries_other, entries_end}
 use Rattle.answers.specs.Laws.Entries.{at_most_one}
 use Rattle.answers.specs.Laws.Whole.{row_count, rows_read}
 use Rattle.states.specs.States.{kind_at, Ordered, AllAnswered, Sized, Serving, Formed, EntryOn, RowCounts}

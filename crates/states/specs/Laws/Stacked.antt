@@ -6,8 +6,8 @@ use Rattle.std.proofs.lemmas.List.{set-get_or}
 use Rattle.operations.specs.Operations.{Stack, Row, row, Operation, on_stack, push, pop, top, Answer, answering, valued}
 use Rattle.operations.specs.Operations.{found, top_item, stack_next, next, answer, kind_of, stored}
 use Rattle.operations.specs.PairRules.{first_number, last_number}
-use Rattle.operations.specs.Laws.Cases.{same, denied}
-use Rattle.operations.specs.Laws.Numbers.{numbers}
+use Rattle.operations.proofs.Laws.Cases.{same, denied}
+use Rattle.operations.proofs.Laws.Numbers.{numbers}
 use Rattle.store.specs.Layout.{word, or_pop, entry_start, operation_at, rows_at}
 use Rattle.representatives.specs.Representatives.{entry_object, entry_number, entry_key, First}
 use Rattle.representatives.specs.Laws.Reading.{of_kind_lem}

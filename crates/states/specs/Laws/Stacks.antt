@@ -5,9 +5,9 @@ use Rattle.std.proofs.Math.Option.{none, some}
 use Rattle.std.proofs.lemmas.List.{set-get_or}
 use Rattle.std.proofs.Math.Seq.{take-length}
 use Rattle.operations.specs.Operations.{Row, row, answering, valued, push, pop, stack_next, top_item}
-use Rattle.operations.specs.Laws.Stacks.{top_of_pushed, popped_of_pushed}
+use Rattle.operations.proofs.Laws.Stacks.{top_of_pushed, popped_of_pushed}
 use Rattle.store.specs.Layout.{word, object_start, row_at, rows_at}
-use Rattle.store.specs.Laws.Lists.{get_d_tabulate}
+use Rattle.store.proofs.Laws.Lists.{get_d_tabulate}
 use Rattle.representatives.specs.Representatives.{entry_key}
 use Rattle.answers.specs.Laws.Whole.{row_count}
 use Rattle.states.specs.States.{pushed_on, LinkedDown, Stacked, TopBy}

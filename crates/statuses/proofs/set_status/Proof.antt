@@ -1,6 +1,6 @@
 -- `statuses::set_status`: one word written is one status changed.
 use borrow.Author.Rules.{rules}
-use Rattle.store.specs.Laws.Writing.{status_put}
+use Rattle.store.proofs.Laws.Writing.{status_put}
 use Rattle.statuses.proofs.set_status.Statement.{statement}
 use Rattle.statuses.proofs.set_status.Tie as tie
 

@@ -1,11 +1,11 @@
--- How many of the first transactions are pseudo_committed_lem.
+-- How many of the first transactions are pseudo-committed.
 use Rattle.std.specs.Prelude.{ℕ, ◌+◌, ◌<◌, ◌≤◌, ◌≡◌, refl, List, [], ◌∷◌, ◌++◌}
 use Rattle.std.proofs.Math.Path.{ap}
 use Rattle.std.proofs.Common.{add-one, arith}
 use Rattle.bitset.specs.Laws.{bit}
 use Rattle.store.specs.Store.{Status, absent, active, pseudo_committed, pseudo_committed_in}
 use Rattle.store.specs.Layout.{word, tabulate, status_at, read_status}
-use Rattle.store.specs.Laws.Lists.{tabulate_zero, tabulate_snoc}
+use Rattle.store.proofs.Laws.Lists.{tabulate_zero, tabulate_snoc}
 use Rattle.statuses.specs.Laws.Words.{finished_read}
 
 finished_last : (l : List Status) (status : Status)

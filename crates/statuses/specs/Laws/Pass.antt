@@ -5,7 +5,7 @@ use Rattle.bitset.specs.Bitset.{has, Members, Holds}
 use Rattle.store.specs.Store.{Live, PseudoCommitted}
 use Rattle.store.specs.Soundness.{OnceEach, WithoutGaps}
 use Rattle.store.specs.Layout.{base, decode, read_status, word}
-use Rattle.store.specs.Laws.Reading.{status_read, live_below}
+use Rattle.store.proofs.Laws.Reading.{status_read, live_below}
 use Rattle.statuses.specs.declared.Ranks.{Ranks}
 use Rattle.statuses.specs.Statuses.{Noted, Downward}
 use Rattle.statuses.specs.Laws.Sets.{Upto, upto_none, upto_next, upto_all, marked_with, marked_not}

@@ -4,10 +4,10 @@ use Rattle.std.proofs.Common.{sym, ap, ◌∙◌, subst, inl, inr, ⊎_elim, not
 use Rattle.std.proofs.lemmas.Bool.{false≢true}
 use Rattle.bitset.specs.Bitset.{has, Members, Holds}
 use Rattle.bitset.specs.Laws.{no_member}
-use Rattle.operations.specs.Laws.Cases.{split, same}
+use Rattle.operations.proofs.Laws.Cases.{split, same}
 use Rattle.store.specs.Store.{Status, absent, active, pseudo_committed, Store, status_of}
 use Rattle.store.specs.Soundness.{OnceEach, WithoutGaps}
-use Rattle.store.specs.Laws.Statuses.{absent_unranked, active_unranked, same_rank}
+use Rattle.store.proofs.Laws.Statuses.{absent_unranked, active_unranked, same_rank}
 use Rattle.statuses.specs.declared.Ranks.{Ranks}
 use Rattle.statuses.specs.Statuses.{Noted, Downward}
 use Rattle.statuses.specs.Laws.Sets.{one_more, downward}

@@ -5,7 +5,7 @@ use Rattle.std.proofs.lemmas.Bool.{false≢true}
 use Rattle.std.proofs.Math.Bool.{or-false, or-true}
 use Rattle.bitset.specs.Bitset.{has, Members, Holds}
 use Rattle.bitset.specs.Laws.{no_member, half, same_members, either}
-use Rattle.operations.specs.Laws.Cases.{same}
+use Rattle.operations.proofs.Laws.Cases.{same}
 use Rattle.statuses.specs.Statuses.{Downward}
 
 absorbed : (a b : Bool) → (b ≡ true → a ≡ true) → (a || b) ≡ a

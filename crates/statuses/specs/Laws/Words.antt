@@ -6,9 +6,9 @@ use Rattle.bitset.specs.Bitset.{has, Members}
 use Rattle.bitset.specs.Laws.{bit}
 use Rattle.store.specs.Store.{absent, pseudo_committed, Live, PseudoCommitted}
 use Rattle.store.specs.Layout.{base, decode, status_word, read_status, word}
-use Rattle.store.specs.Laws.Encoding.{status_written}
-use Rattle.store.specs.Laws.Reading.{status_read, live_below}
-use Rattle.store.specs.Laws.Statuses.{pseudo_committed_live}
+use Rattle.store.proofs.Laws.Encoding.{status_written}
+use Rattle.store.proofs.Laws.Reading.{status_read, live_below}
+use Rattle.store.proofs.Laws.Statuses.{pseudo_committed_live}
 use Rattle.statuses.specs.declared.Ranks.{Ranks}
 use Rattle.statuses.specs.Statuses.{Noted}
 

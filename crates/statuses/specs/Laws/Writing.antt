@@ -11,8 +11,8 @@ use Rattle.bitset.specs.Laws.{bit}
 use Rattle.store.specs.Store.{Status, Store}
 use Rattle.store.specs.Layout.{base, decode, encode, Packed, status_word}
 use Rattle.store.specs.Steps.{lowered, closed_up}
-use Rattle.store.specs.Laws.Encoding.{status_read}
-use Rattle.store.specs.Theorems.{encoded, representable}
+use Rattle.store.proofs.Laws.Encoding.{status_read}
+use Rattle.store.proofs.Theorems.{encoded, representable}
 use Rattle.statuses.specs.Statuses.{lowered_word}
 use Rattle.statuses.specs.Laws.Words.{finished_read}
 

@@ -1,6 +1,6 @@
 -- `text::put_decimal`: one digit, or the others first and then the last.
 use Rattle.std.proofs.Common.{◌<◌, arith}
-use Rattle.text.specs.Laws.Decimals.{digit_within, digit_put, others_fit, last_within, digits_put}
+use Rattle.text.proofs.Laws.Decimals.{digit_within, digit_put, others_fit, last_within, digits_put}
 use Rattle.text.proofs.+put_decimal.Goals as goal
 
 pub bounds-out-at : goal.bounds-out-at

@@ -1,6 +1,6 @@
 -- `text::find`: the first separator is here, or further on.
 use Rattle.std.proofs.Common.{◌≡◌, arith}
-use Rattle.text.specs.Laws.Finding.{found_here, not_here, none_left}
+use Rattle.text.proofs.Laws.Finding.{found_here, not_here, none_left}
 use Rattle.text.proofs.find.Goals as goal
 
 pub returns-then-text-at : goal.returns-then-text-at

@@ -4,8 +4,8 @@ use mathlib.Core.Path.{sym, subst}
 use native.Mathlib.Omega.{arith}
 use borrow.Author.Rules.{rules}
 use lib.ListN.{length, get_or}
-use Rattle.text.specs.Laws.Numbers.{DigitsRead, start, bounded, next, stops, below_digits, above_digits}
-use Rattle.text.specs.Laws.Numbers.{too_large, said, empty, too_long}
+use Rattle.text.proofs.Laws.Numbers.{DigitsRead, start, bounded, next, stops, below_digits, above_digits}
+use Rattle.text.proofs.Laws.Numbers.{too_large, said, empty, too_long}
 use Rattle.text.proofs.read_number.Statement.{statement}
 use Rattle.text.proofs.read_number.Tie as tie
 

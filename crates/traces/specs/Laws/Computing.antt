@@ -7,15 +7,15 @@ use Rattle.operations.specs.Operations.{reduce_key, by_order}
 use Rattle.store.specs.Layout.{BookLong, book_words}
 use Rattle.store.specs.Layout.{tabulate, encode, base}
 use Rattle.store.specs.Soundness.{Sound}
-use Rattle.store.specs.Decisions.{whether_ready, whether_on_cycle, whether_sound}
+use Rattle.store.proofs.Decisions.{whether_ready, whether_on_cycle, whether_sound}
 use Rattle.protocol.specs.Replies.{ok, Served}
 use Rattle.protocol.specs.Ending.{first_below, lowest_ready}
 use Rattle.protocol.specs.Calls as calls
 use Rattle.protocol.specs.Calls.{bad_kinds, unsound, empty, set_up_reason}
 use Rattle.protocol.specs.Call.{Call, set_up, begin, operate, batch, finish, cancel, contents, desk}
-use Rattle.protocol.specs.Theorems.{set_up_sound, sound_kept}
-use Rattle.protocol.specs.Laws.Reasons.{found_sound}
-use Rattle.protocol.specs.Laws.Leaving.{set_up_served}
+use Rattle.protocol.proofs.Theorems.{set_up_sound, sound_kept}
+use Rattle.protocol.proofs.Laws.Reasons.{found_sound}
+use Rattle.protocol.proofs.Laws.Leaving.{set_up_served}
 use Rattle.history.specs.History.{Event, trace}
 use mathlib.Core.Logic.Dec
 

@@ -10,7 +10,7 @@ use borrow.Author.Tests.{eqb-true, eqb-false, not-true, not-false}
 use lib.ListN.{length}
 use Rattle.operations.specs.Operations as model
 use Rattle.operations.specs.PairRules.{recoverable}
-use Rattle.operations.specs.Laws.Numbers.{Tells, tells_stack, tells_set, tells_table}
+use Rattle.operations.proofs.Laws.Numbers.{Tells, tells_stack, tells_set, tells_table}
 use Rattle.store.specs.Layout.{word, operation_at, object_start}
 use Rattle.pairs.specs.Laws.{Within}
 use Rattle.entry_log.specs.Log.{StoredAs}

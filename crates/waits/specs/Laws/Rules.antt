@@ -7,8 +7,8 @@ use Rattle.operations.specs.declared.Operation.{Operation}
 use Rattle.operations.specs.PairRules.{Rule, always, never, apart, equal, agreeing, recoverable}
 use Rattle.operations.specs.PairRules.{recoverable_rules, first_number}
 use Rattle.operations.specs.Stored.{operation_of}
-use Rattle.operations.specs.Laws.Storing.{read_back}
-use Rattle.operations.specs.Laws.Numbers.{numbers}
+use Rattle.operations.proofs.Laws.Storing.{read_back}
+use Rattle.operations.proofs.Laws.Numbers.{numbers}
 use Rattle.pairs.specs.Pairs.{code_of, code_at, ByKeys, allows_keys, both}
 use Rattle.pairs.specs.Laws.{Within, recoverable_keyed, decided}
 use Rattle.entry_log.specs.Log.{StoredAs}

@@ -6,17 +6,17 @@ use Rattle.std.proofs.Math.Option.{some, some-injective}
 use Rattle.operations.specs.Operations as model
 use Rattle.operations.specs.declared.Operation.{Operation}
 use Rattle.operations.specs.PairRules.{recoverable}
-use Rattle.operations.specs.Laws.Cases.{split}
-use Rattle.operations.specs.Laws.Numbers.{Tells}
+use Rattle.operations.proofs.Laws.Cases.{split}
+use Rattle.operations.proofs.Laws.Numbers.{Tells}
 use Rattle.operations.specs.Log.{Entry}
 use Rattle.bitset.specs.Bitset.{has, Members, including}
 use Rattle.bitset.specs.Laws.{included, no_member, same_members}
 use Rattle.store.specs.Store.{Object, Logged, Live, object_of, on_object}
 use Rattle.store.specs.Layout.{word, decode, kind_word, entry_start, entry_at, operation_at, object_start, base}
-use Rattle.store.specs.Laws.Lists.{all_each}
-use Rattle.store.specs.Laws.Entries.{entries_from, log_here, entries_end}
-use Rattle.store.specs.Laws.Objects.{kind_written}
-use Rattle.store.specs.Laws.Reading.{object_read, live_below}
+use Rattle.store.proofs.Laws.Lists.{all_each}
+use Rattle.store.proofs.Laws.Entries.{entries_from, log_here, entries_end}
+use Rattle.store.proofs.Laws.Objects.{kind_written}
+use Rattle.store.proofs.Laws.Reading.{object_read, live_below}
 use Rattle.entry_log.specs.Log.{StoredAs}
 use Rattle.protocol.specs.Calls.{owners}
 use Rattle.waits.specs.Waits.{Asked}

@@ -6,7 +6,7 @@ use Rattle.operations.specs.Operations as model
 use Rattle.operations.specs.PairRules.{Numbered}
 use Rattle.protocol.specs.Calls.{request}
 use Rattle.store.specs.Layout.{base}
-use Rattle.store.specs.Laws.Words.{each}
+use Rattle.store.proofs.Laws.Words.{each}
 
 -- What the tests of the number pick for the key and for the value.
 abbrev pub key_for : ℕ → ℕ → ℕ

@@ -1,6 +1,6 @@
 -- `capi::records::lending_desk_count_records`: what the reader counted, written.
 use borrow.Author.Rules.{rules}
-use Rattle.capi.specs.Laws.Records.{says_counted, says_uncounted}
+use Rattle.capi.proofs.Laws.Records.{says_counted, says_uncounted}
 use Rattle.capi.proofs.records.lending_desk_count_records.Statement.{statement}
 use Rattle.capi.proofs.records.lending_desk_count_records.Tie as tie
 

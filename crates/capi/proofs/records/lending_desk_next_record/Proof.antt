@@ -1,6 +1,6 @@
 -- `capi::records::lending_desk_next_record`: what the reader said, written.
 use borrow.Author.Rules.{rules}
-use Rattle.capi.specs.Laws.Records.{says_record, says_end, says_bad}
+use Rattle.capi.proofs.Laws.Records.{says_record, says_end, says_bad}
 use Rattle.capi.proofs.records.lending_desk_next_record.Statement.{statement}
 use Rattle.capi.proofs.records.lending_desk_next_record.Tie as tie
 

@@ -1,0 +1,4 @@
+pub mod Counterexamples
+pub mod Laws
+pub mod Theorems
+pub mod Samples
