@@ -1,5 +1,6 @@
 // A journal read from any bytes: record by record, or how many there are.
 #![tactic(auto)]
+
 ghost use Rattle.std.specs.Prelude.{◌≡◌, cond, ◌≤◌, ◌<◌, length, drop};
 ghost use Rattle.journal.specs.Records.{is_batch};
 ghost use Rattle.journal.specs.Reading.{step, records_in};
