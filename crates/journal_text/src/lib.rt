@@ -1,5 +1,6 @@
 // A journal as text, a line for each record.
 #![tactic(auto)]
+
 ghost use Rattle.journal_text.specs.Listed.{Listing};
 
 use journal_reader::Place;
