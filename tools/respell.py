@@ -14,7 +14,8 @@ import sys
 # A name: letters, digits, primes, subscripts, and dashes and dots inside.
 NAME = re.compile(r"[A-Za-z_\u0370-\u03ff\u2080-\u209c'\u2115]"
                   r"[A-Za-z0-9_\u0370-\u03ff\u2080-\u209c'\u2032\u2115\u2260]*(?:-[A-Za-z0-9_\u0370-\u03ff\u2080-\u209c'\u2032\u2115\u2260]+)*")
-DECLARED = re.compile(r"^\s*(?:(?:pub|abbrev|unfoldable|opaque|private)\s+)*(?:record\s+|data\s+)?(\S+?)(?:\s+[({].*?)?\s+:\s")
+DECLARED = re.compile(r"^\s*(?:(?:pub|abbrev|unfoldable|opaque|private)\s+)*(?:record\s+|data\s+)?"
+                      r"(\S+?(?:\s+[A-Za-z][\w'-]*)*)(?:\s+[({].*?)?\s+:(?:\s|$)")
 CONSTRUCTOR = re.compile(r"^\s*\|?\s*(?:pub\s+)?([a-z][\w'-]*)\s+:\s")
 USE = re.compile(r"^\s*(?:pub\s+|ghost\s+)*use\s+([\w.']+?)\.?(?:\{([^}]*)\})?\s*(?:as\s+\S+)?;?\s*$")
 # Names that Rattle makes stand behind these words and a dot.
@@ -58,8 +59,10 @@ def names(root):
                         library.add(word.strip().split(" as ")[0])
                 continue
             found = DECLARED.match(line)
-            if found and NAME.fullmatch(found.group(1)):
-                declared.setdefault(found.group(1), set()).add(path)
+            several = found.group(1).split() if found else ()  # a line may declare several constructors
+            for name in several:
+                if several[0] != "let" and NAME.fullmatch(name):
+                    declared.setdefault(name, set()).add(path)
     return declared, library
 
 

@@ -1,11 +1,11 @@
 -- How the answers of the reader's parts are read, and what they say.
-use Rattle.std.specs.Prelude.{ℕ, ◌+◌, ◌*◌, ◌≤◌, ◌<◌, ◌≡◌, cond, List, ◌++◌, eqb, length, drop}
+use Rattle.std.specs.Prelude.{ℕ, ◌*◌, ◌≤◌, ◌<◌, ◌≡◌, cond, List, eqb, length, drop}
 use Rattle.bitset.specs.Bitset.{members}
 use Rattle.journal.specs.Groups.{Read, found, bad, then, code, list, number, numbers}
 use Rattle.journal.specs.Records as model
 use Rattle.journal.specs.Records.{gives, recorded}
 use Rattle.journal.specs.Reading.{count, owners_from, reply_in, record_in, step}
-use Rattle.journal.specs.Coded.{front, argument_count, record_of, cause_of}
+use Rattle.journal.specs.Coded.{front, argument_count, record_of}
 use Rattle.journal.specs.declared.Record.{Record}
 use Rattle.journal_numbers.specs.Parts.{Reads}
 use Rattle.journal_reader.specs.Said.{reading_said, place_of}

@@ -3,8 +3,8 @@
 use Rattle.std.specs.Prelude.{ℕ, ◌+◌, ◌*◌, ◌^◌, ◌≤◌, ◌<◌, ◌≡◌, refl, ◌↔◌, Bool, true, false, not, List, [], ◌∷◌, map, length}
 use Rattle.std.proofs.Common.{ap, arith}
 use Rattle.std.proofs.Math.Option.{some}
-use Rattle.operations.specs.Operations.{Kind, Row, Answer, answering, flag, valued, push, pop, setInsert}
-use Rattle.operations.specs.Operations.{setDelete, member, TableOperation, table_insert, tableDelete, lookup}
+use Rattle.operations.specs.Operations.{Kind, Row, Answer, answering, flag, valued, push, pop, set_insert}
+use Rattle.operations.specs.Operations.{set_delete, member, TableOperation, table_insert, table_delete, lookup}
 use Rattle.operations.specs.Operations.{modify, on_table}
 use Rattle.operations.specs.Operations.{Operation, kind_of, number_of, key_of, value_of, reduce_key, numbered, stored}
 use Rattle.operations.specs.Operations.{found, present, stack_next, stack_answer, set_next, set_answer, table_next}
@@ -58,26 +58,26 @@ own_key_only o rs a = (found_own o rs a, found_other o rs a)
 
 -- What a set or a table answers of a key that was just inserted, and of one that was just deleted.
 pub answers_after_insert : (k v w : ℕ) (rs : List Row) → Ascending rs
-    → (set_answer (member k) (set_next (setInsert k) rs) ≡ answering 1 0)
-    × (set_answer (setDelete k) (set_next (setInsert k) rs) ≡ answering 1 0)
+    → (set_answer (member k) (set_next (set_insert k) rs) ≡ answering 1 0)
+    × (set_answer (set_delete k) (set_next (set_insert k) rs) ≡ answering 1 0)
     × (table_answer (table_insert k w) (table_next (table_insert k v) rs) ≡ answering 0 0)
-    × (table_answer (tableDelete k) (table_next (table_insert k v) rs) ≡ answering 1 0)
+    × (table_answer (table_delete k) (table_next (table_insert k v) rs) ≡ answering 1 0)
     × (table_answer (modify k w) (table_next (table_insert k v) rs) ≡ answering 1 0)
 answers_after_insert k v w rs a =
-    let set : present k (set_next (setInsert k) rs) ≡ true = present_own (table_insert k 0) rs a in
+    let set : present k (set_next (set_insert k) rs) ≡ true = present_own (table_insert k 0) rs a in
     let table : present k (table_next (table_insert k v) rs) ≡ true = present_own (table_insert k v) rs a in
     (ap flag set, ap flag set, ap (λ (b : Bool). flag (not b)) table, ap flag table, ap flag table)
 
 pub answers_after_delete : (k w : ℕ) (rs : List Row) → Ascending rs
-    → (set_answer (member k) (set_next (setDelete k) rs) ≡ answering 0 0)
-    × (set_answer (setDelete k) (set_next (setDelete k) rs) ≡ answering 0 0)
-    × (table_answer (table_insert k w) (table_next (tableDelete k) rs) ≡ answering 1 0)
-    × (table_answer (tableDelete k) (table_next (tableDelete k) rs) ≡ answering 0 0)
-    × (table_answer (lookup k) (table_next (tableDelete k) rs) ≡ answering 0 0)
-    × (table_answer (modify k w) (table_next (tableDelete k) rs) ≡ answering 0 0)
+    → (set_answer (member k) (set_next (set_delete k) rs) ≡ answering 0 0)
+    × (set_answer (set_delete k) (set_next (set_delete k) rs) ≡ answering 0 0)
+    × (table_answer (table_insert k w) (table_next (table_delete k) rs) ≡ answering 1 0)
+    × (table_answer (table_delete k) (table_next (table_delete k) rs) ≡ answering 0 0)
+    × (table_answer (lookup k) (table_next (table_delete k) rs) ≡ answering 0 0)
+    × (table_answer (modify k w) (table_next (table_delete k) rs) ≡ answering 0 0)
 answers_after_delete k w rs a =
-    let gone : present k (table_next (tableDelete k) rs) ≡ false = present_own (tableDelete k) rs a in
-    let absent = ap valued (found_own (tableDelete k) rs a) in
+    let gone : present k (table_next (table_delete k) rs) ≡ false = present_own (table_delete k) rs a in
+    let absent = ap valued (found_own (table_delete k) rs a) in
     (ap flag gone, ap flag gone, ap (λ (b : Bool). flag (not b)) gone, ap flag gone, absent, ap flag gone)
 
 -- ---- The two relations
@@ -112,12 +112,12 @@ module _ (reduce : ℕ → ℕ) (kind : Kind) where
     -- The commuting tables say yes exactly where both orders give the same state and the same answers from every
     -- state. Where they say no, rows show it; where keys and items have 32 bits, at most one row, of a form that a
     -- sound book can hold.
-    pub commuting-exact :
+    pub commuting_exact :
         ((commutes o p ≡ true) ↔ ((rs : List Row) → WellFormed reduce kind rs → EitherOrder o p rs))
         × (commutes o p ≡ false
         → (rs : List Row) × WellFormed reduce kind rs × (EitherOrder o p rs → ⊥)
         × (key_of o < 2 ^ 32 → key_of p < 2 ^ 32 → (length rs ≤ 1) × Holdable rs))
-    commuting-exact =
+    commuting_exact =
         let valid = order_valid reduce kind o p fo fp in
         let differs : commutes o p ≡ false → EitherOrder o p (order_witness o p) → ⊥ =
         order_differs kind o p fo.0 fp.0 in (

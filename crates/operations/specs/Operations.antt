@@ -45,11 +45,11 @@ pub data StackOperation : Type 0 where
   pop top : StackOperation
 
 pub data SetOperation : Type 0 where
-  setInsert setDelete member : (key : ℕ) → SetOperation
+  set_insert set_delete member : (key : ℕ) → SetOperation
 
 pub data TableOperation : Type 0 where
   table_insert : (key value : ℕ) → TableOperation
-  tableDelete lookup : (key : ℕ) → TableOperation
+  table_delete lookup : (key : ℕ) → TableOperation
   size : TableOperation
   modify : (key value : ℕ) → TableOperation
 
@@ -74,8 +74,8 @@ reduce_key k = k % 16_777_216
 abbrev pub numbered : (ℕ → ℕ) → ℕ → ℕ → List Operation
 numbered reduce k v =
     on_stack (push k) ∷ on_stack pop ∷ on_stack top
-    ∷ on_set (setInsert (reduce k)) ∷ on_set (setDelete (reduce k)) ∷ on_set (member (reduce k))
-    ∷ on_table (table_insert (reduce k) v) ∷ on_table (tableDelete (reduce k)) ∷ on_table (lookup (reduce k)) ∷ on_table size
+    ∷ on_set (set_insert (reduce k)) ∷ on_set (set_delete (reduce k)) ∷ on_set (member (reduce k))
+    ∷ on_table (table_insert (reduce k) v) ∷ on_table (table_delete (reduce k)) ∷ on_table (lookup (reduce k)) ∷ on_table size
     ∷ on_table (modify (reduce k) v)
     ∷ []
 
@@ -98,11 +98,11 @@ abbrev pub description : Operation → Description
 description (on_stack (push x)) = described 1 x 0 true
 description (on_stack pop) = described 2 0 0 false
 description (on_stack top) = described 3 0 0 false
-description (on_set (setInsert k)) = described 4 k 0 true
-description (on_set (setDelete k)) = described 5 k 0 false
+description (on_set (set_insert k)) = described 4 k 0 true
+description (on_set (set_delete k)) = described 5 k 0 false
 description (on_set (member k)) = described 6 k 0 false
 description (on_table (table_insert k v)) = described 7 k v true
-description (on_table (tableDelete k)) = described 8 k 0 false
+description (on_table (table_delete k)) = described 8 k 0 false
 description (on_table (lookup k)) = described 9 k 0 false
 description (on_table size) = described 10 0 0 false
 description (on_table (modify k v)) = described 11 k v false
@@ -160,13 +160,13 @@ stack_next pop rs = take (length rs - 1) rs
 stack_next top rs = rs
 
 abbrev pub set_next : SetOperation → List Row → List Row
-set_next (setInsert k) rs = inserted k 0 rs
-set_next (setDelete k) rs = deleted k rs
+set_next (set_insert k) rs = inserted k 0 rs
+set_next (set_delete k) rs = deleted k rs
 set_next (member k) rs = rs
 
 abbrev pub table_next : TableOperation → List Row → List Row
 table_next (table_insert k v) rs = inserted k v rs
-table_next (tableDelete k) rs = deleted k rs
+table_next (table_delete k) rs = deleted k rs
 table_next (lookup k) rs = rs
 table_next size rs = rs
 table_next (modify k v) rs = modified k v rs
@@ -187,13 +187,13 @@ stack_answer pop rs = valued (top_item rs)
 stack_answer top rs = valued (top_item rs)
 
 abbrev pub set_answer : SetOperation → List Row → Answer
-set_answer (setInsert k) rs = answering 1 0
-set_answer (setDelete k) rs = flag (present k rs)
+set_answer (set_insert k) rs = answering 1 0
+set_answer (set_delete k) rs = flag (present k rs)
 set_answer (member k) rs = flag (present k rs)
 
 abbrev pub table_answer : TableOperation → List Row → Answer
 table_answer (table_insert k v) rs = flag (not (present k rs))
-table_answer (tableDelete k) rs = flag (present k rs)
+table_answer (table_delete k) rs = flag (present k rs)
 table_answer (lookup k) rs = valued (found k rs)
 table_answer size rs = answering 1 (length rs)
 table_answer (modify k v) rs = flag (present k rs)

@@ -19,10 +19,10 @@ abbrev before : Store
 before = commit 1 (entered 1 0 (on_stack (push 7)) (entered 1 0 (on_stack pop) (with_status 1 active saved)))
 
 -- The definition keeps the new row; the copy brings back the old one. There is one row either way.
-pub saved-copy-differs :
+pub saved_copy_differs :
     ((object_of (settled_all (ended 0 before)).store 0).rows ≡ row 7 0 ∷ [])
     × ((object_of (with_objects saved.objects (settled_all (ended 0 before)).store) 0).rows ≡ row 3 0 ∷ [])
-saved-copy-differs = (refl, refl)
+saved_copy_differs = (refl, refl)
 
 -- ---- A commit whose modify keeps the old value
 

@@ -23,11 +23,11 @@ unfolding rows_needed
 needed (model.on_stack (model.push x)) = refl
 needed (model.on_stack model.pop) = refl
 needed (model.on_stack model.top) = refl
-needed (model.on_set (model.setInsert k)) = refl
-needed (model.on_set (model.setDelete k)) = refl
+needed (model.on_set (model.set_insert k)) = refl
+needed (model.on_set (model.set_delete k)) = refl
 needed (model.on_set (model.member k)) = refl
 needed (model.on_table (model.table_insert k v)) = refl
-needed (model.on_table (model.tableDelete k)) = refl
+needed (model.on_table (model.table_delete k)) = refl
 needed (model.on_table (model.lookup k)) = refl
 needed (model.on_table model.size) = refl
 needed (model.on_table (model.modify k v)) = refl

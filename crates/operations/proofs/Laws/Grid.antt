@@ -4,8 +4,8 @@ use Rattle.std.proofs.Common.{sym, ap, ◌∙◌, true≢false, arith, ne_eqb}
 use Rattle.std.specs.Bool.{beq}
 use Rattle.std.proofs.Math.Bool.{and-eq-true_iff, or-true}
 use Rattle.std.proofs.lemmas.Bool.{not-true}
-use Rattle.operations.specs.Operations.{Kind, Stack, Set, Table, push, pop, top, setInsert, setDelete, member}
-use Rattle.operations.specs.Operations.{table_insert, tableDelete, lookup, size, modify, Operation, on_stack, on_set}
+use Rattle.operations.specs.Operations.{Kind, Stack, Set, Table, push, pop, top, set_insert, set_delete, member}
+use Rattle.operations.specs.Operations.{table_insert, table_delete, lookup, size, modify, Operation, on_stack, on_set}
 use Rattle.operations.specs.Operations.{on_table, kind_of, number_of, key_of, value_of}
 use Rattle.operations.specs.PairRules.{Rules, says, rule_at, first_number, last_number, recoverable_rules}
 use Rattle.operations.specs.PairRules.{commuting_rules, recoverable, commutes, rewriting, rewrites}
@@ -67,11 +67,11 @@ place : (o : Operation) → (i : ℕ) × (i < operation_count (kind_of o)) × (n
 place (on_stack (push x)) = (0, omega arith, refl)
 place (on_stack pop) = (1, omega arith, refl)
 place (on_stack top) = (2, omega arith, refl)
-place (on_set (setInsert k)) = (0, omega arith, refl)
-place (on_set (setDelete k)) = (1, omega arith, refl)
+place (on_set (set_insert k)) = (0, omega arith, refl)
+place (on_set (set_delete k)) = (1, omega arith, refl)
 place (on_set (member k)) = (2, omega arith, refl)
 place (on_table (table_insert k v)) = (0, omega arith, refl)
-place (on_table (tableDelete k)) = (1, omega arith, refl)
+place (on_table (table_delete k)) = (1, omega arith, refl)
 place (on_table (lookup k)) = (2, omega arith, refl)
 place (on_table size) = (3, omega arith, refl)
 place (on_table (modify k v)) = (4, omega arith, refl)
@@ -86,8 +86,8 @@ value_free : (o : Operation) → valued (kind_of o) ≡ false → value_of o ≡
 value_free (on_stack (push x)) e = refl
 value_free (on_stack pop) e = refl
 value_free (on_stack top) e = refl
-value_free (on_set (setInsert k)) e = refl
-value_free (on_set (setDelete k)) e = refl
+value_free (on_set (set_insert k)) e = refl
+value_free (on_set (set_delete k)) e = refl
 value_free (on_set (member k)) e = refl
 value_free (on_table o) e = absurd (true≢false e)
 

@@ -5,7 +5,7 @@ use native.Mathlib.Omega.{arith}
 use borrow.Author.Tests.{leb-true, leb-false, le-leb, lt-leb}
 use Rattle.operations.specs.PairRules.{OfKind, Numbered, kind_numbered}
 use Rattle.operations.specs.Operations.{Kind, Stack, Set, Table, kind_number}
-use Rattle.operations.specs.Operations.{push, pop, top, setInsert, setDelete, member, table_insert, tableDelete}
+use Rattle.operations.specs.Operations.{push, pop, top, set_insert, set_delete, member, table_insert, table_delete}
 use Rattle.operations.specs.Operations.{lookup, size, modify, Operation, on_stack, on_set, on_table, kind_of}
 use Rattle.operations.specs.Operations.{number_of}
 use Rattle.operations.proofs.Laws.Cases.{split}
@@ -82,11 +82,11 @@ pub numbers : (o : Operation) → OfKind (kind_of o) (number_of o)
 numbers (on_stack (push x)) = (omega arith, omega arith)
 numbers (on_stack pop) = (omega arith, omega arith)
 numbers (on_stack top) = (omega arith, omega arith)
-numbers (on_set (setInsert k)) = (omega arith, omega arith)
-numbers (on_set (setDelete k)) = (omega arith, omega arith)
+numbers (on_set (set_insert k)) = (omega arith, omega arith)
+numbers (on_set (set_delete k)) = (omega arith, omega arith)
 numbers (on_set (member k)) = (omega arith, omega arith)
 numbers (on_table (table_insert k v)) = (omega arith, omega arith)
-numbers (on_table (tableDelete k)) = (omega arith, omega arith)
+numbers (on_table (table_delete k)) = (omega arith, omega arith)
 numbers (on_table (lookup k)) = (omega arith, omega arith)
 numbers (on_table size) = (omega arith, omega arith)
 numbers (on_table (modify k v)) = (omega arith, omega arith)

@@ -3,8 +3,8 @@ use Rattle.std.specs.Prelude.{ℕ, ◌≡◌, refl, true, not, ◌&&◌, List, e
 use Rattle.std.proofs.Common.{sym, ap, ◌∙◌, subst, arith}
 use Rattle.std.proofs.lemmas.Bool.{false≢true}
 use Rattle.operations.specs.Operations.{Kind, Stack, Set, Table, Row, Answer, StackOperation, push, pop, top}
-use Rattle.operations.specs.Operations.{SetOperation, setInsert, setDelete, member, TableOperation, table_insert}
-use Rattle.operations.specs.Operations.{tableDelete, lookup, size, modify, Operation, on_stack, on_set, on_table}
+use Rattle.operations.specs.Operations.{SetOperation, set_insert, set_delete, member, TableOperation, table_insert}
+use Rattle.operations.specs.Operations.{table_delete, lookup, size, modify, Operation, on_stack, on_set, on_table}
 use Rattle.operations.specs.Operations.{kind_of, number_of, key_of, next, answer, WellFormed, StoredKey, Fits}
 use Rattle.operations.specs.PairRules.{first_number, recoverable, commutes}
 use Rattle.operations.proofs.Laws.Cases.{either}
@@ -64,11 +64,11 @@ kept_by : (o : Operation) → reading (number_of o) ≡ true → (rs : List Row)
 kept_by (on_stack (push x)) e rs = absurd (false≢true e)
 kept_by (on_stack pop) e rs = absurd (false≢true e)
 kept_by (on_stack top) e rs = refl
-kept_by (on_set (setInsert k)) e rs = absurd (false≢true e)
-kept_by (on_set (setDelete k)) e rs = absurd (false≢true e)
+kept_by (on_set (set_insert k)) e rs = absurd (false≢true e)
+kept_by (on_set (set_delete k)) e rs = absurd (false≢true e)
 kept_by (on_set (member k)) e rs = refl
 kept_by (on_table (table_insert k v)) e rs = absurd (false≢true e)
-kept_by (on_table (tableDelete k)) e rs = absurd (false≢true e)
+kept_by (on_table (table_delete k)) e rs = absurd (false≢true e)
 kept_by (on_table (lookup k)) e rs = refl
 kept_by (on_table size) e rs = refl
 kept_by (on_table (modify k v)) e rs = absurd (false≢true e)

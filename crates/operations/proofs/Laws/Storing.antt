@@ -3,7 +3,7 @@ use Rattle.std.specs.Prelude.{ℕ, zero, suc, ◌<◌, ◌≡◌, refl, true, �
 use Rattle.std.proofs.Common.{sym, subst, ◌∙◌, arith, eqb-true}
 use Rattle.std.proofs.Math.Bool.{and-eq-true_iff}
 use Rattle.std.proofs.Math.Option.{none, some, none-ne-some, some-injective}
-use Rattle.operations.specs.Operations.{push, pop, top, setInsert, setDelete, member, table_insert, tableDelete}
+use Rattle.operations.specs.Operations.{push, pop, top, set_insert, set_delete, member, table_insert, table_delete}
 use Rattle.operations.specs.Operations.{lookup, size, modify, Operation, on_stack, on_set, on_table}
 use Rattle.operations.specs.Operations.{reduce_key, numbered, stored, number_of, key_of, value_of, All, Reduced}
 use Rattle.operations.specs.Operations.{StoredKey}
@@ -37,11 +37,11 @@ pub read_back : (o : Operation) → stored (λ k. k) (number_of o) (key_of o) (v
 read_back (on_stack (push x)) = refl
 read_back (on_stack pop) = refl
 read_back (on_stack top) = refl
-read_back (on_set (setInsert k)) = refl
-read_back (on_set (setDelete k)) = refl
+read_back (on_set (set_insert k)) = refl
+read_back (on_set (set_delete k)) = refl
 read_back (on_set (member k)) = refl
 read_back (on_table (table_insert k v)) = refl
-read_back (on_table (tableDelete k)) = refl
+read_back (on_table (table_delete k)) = refl
 read_back (on_table (lookup k)) = refl
 read_back (on_table size) = refl
 read_back (on_table (modify k v)) = refl

@@ -4,7 +4,7 @@ use Rattle.std.proofs.Common.{sym, ap, ◌∙◌}
 use Rattle.std.proofs.Math.Path.{fun_ext}
 use Rattle.std.proofs.lemmas.Bool.{false≢true, eqb-false, not-true}
 use Rattle.std.proofs.Math.Option.{Option, none, some}
-use Rattle.operations.specs.Operations.{Row, TableOperation, table_insert, tableDelete, lookup, size, modify}
+use Rattle.operations.specs.Operations.{Row, TableOperation, table_insert, table_delete, lookup, size, modify}
 use Rattle.operations.specs.Operations.{Operation, on_table, number_of, key_of, found, is_some, present, modified}
 use Rattle.operations.specs.Operations.{table_next, table_answer, answering, flag, valued, All, Reduced, KeyReduced}
 use Rattle.operations.specs.Operations.{Ascending}
@@ -20,14 +20,14 @@ table_key o = key_of (on_table o)
 -- What an operation makes of the value found at its key.
 abbrev pub change : TableOperation → Option ℕ → Option ℕ
 change (table_insert k v) = kept v
-change (tableDelete k) = dropped
+change (table_delete k) = dropped
 change (lookup k) = λ x. x
 change size = λ x. x
 change (modify k v) = replaced v
 
 next_alters : (o : TableOperation) (rs : List Row) → table_next o rs ≡ alter (table_key o) (change o) rs
 next_alters (table_insert k v) rs = inserted_alters k v rs
-next_alters (tableDelete k) rs = deleted_alters k rs
+next_alters (table_delete k) rs = deleted_alters k rs
 next_alters (lookup k) rs = unchanged_alters k rs
 next_alters size rs = unchanged_alters 0 rs
 next_alters (modify k v) rs = modified_alters k v rs
@@ -35,7 +35,7 @@ next_alters (modify k v) rs = modified_alters k v rs
 -- whether its key is present afterwards
 abbrev presence : TableOperation → Bool → Bool
 presence (table_insert k v) b = true
-presence (tableDelete k) b = false
+presence (table_delete k) b = false
 presence (lookup k) b = b
 presence size b = b
 presence (modify k v) b = b
@@ -43,7 +43,7 @@ presence (modify k v) b = b
 change_presence : (o : TableOperation) (x : Option ℕ) → is_some (change o x) ≡ presence o (is_some x)
 change_presence (table_insert k v) none = refl
 change_presence (table_insert k v) (some w) = refl
-change_presence (tableDelete k) x = refl
+change_presence (table_delete k) x = refl
 change_presence (lookup k) x = refl
 change_presence size x = refl
 change_presence (modify k v) none = refl
@@ -101,14 +101,14 @@ modify_present k v j rs a =
 
 abbrev pub TableView : TableOperation → Type 0
 TableView (table_insert k v) = Bool
-TableView (tableDelete k) = Bool
+TableView (table_delete k) = Bool
 TableView (lookup k) = Option ℕ
 TableView size = ℕ → Bool
 TableView (modify k v) = Bool
 
 abbrev pub table_view : (o : TableOperation) → List Row → TableView o
 table_view (table_insert k v) rs = present k rs
-table_view (tableDelete k) rs = present k rs
+table_view (table_delete k) rs = present k rs
 table_view (lookup k) rs = found k rs
 table_view size rs = λ j. present j rs
 table_view (modify k v) rs = present k rs
@@ -116,7 +116,7 @@ table_view (modify k v) rs = present k rs
 pub table_answer_lem : (o : TableOperation) (s t : List Row) → Ascending s → Ascending t → table_view o s ≡ table_view o t
     → table_answer o s ≡ table_answer o t
 table_answer_lem (table_insert k v) s t a b e = ap (λ (x : Bool). flag (not x)) e
-table_answer_lem (tableDelete k) s t a b e = ap flag e
+table_answer_lem (table_delete k) s t a b e = ap flag e
 table_answer_lem (lookup k) s t a b e = ap valued e
 table_answer_lem size s t a b e = ap (answering 1) (same_length s t a b (λ j. ap (λ (f : ℕ → Bool). f j) e))
 table_answer_lem (modify k v) s t a b e = ap flag e
@@ -125,7 +125,7 @@ pub table_view_next : (o p : TableOperation) (s t : List Row) → Ascending s �
     → table_view o s ≡ table_view o t
     → table_view o (table_next p s) ≡ table_view o (table_next p t)
 table_view_next (table_insert k v) p s t a b e = present_next p k s t a b e
-table_view_next (tableDelete k) p s t a b e = present_next p k s t a b e
+table_view_next (table_delete k) p s t a b e = present_next p k s t a b e
 table_view_next (lookup k) p s t a b e = found_next p k s t a b e
 table_view_next size p s t a b e = fun_ext (λ j. present_next p j s t a b (ap (λ (f : ℕ → Bool). f j) e))
 table_view_next (modify k v) p s t a b e = present_next p k s t a b e
@@ -142,7 +142,7 @@ present_kept : (o : Operation) (p : TableOperation) (rs : List Row) → Ascendin
     → present (key_of o) (table_next p rs) ≡ present (key_of o) rs
 present_kept o (table_insert k v) rs a e =
     ap is_some (found_other (table_insert k v) rs a (key_of o) (differ (key_of o) k e))
-present_kept o (tableDelete k) rs a e = ap is_some (found_other (tableDelete k) rs a (key_of o) (differ (key_of o) k e))
+present_kept o (table_delete k) rs a e = ap is_some (found_other (table_delete k) rs a (key_of o) (differ (key_of o) k e))
 present_kept o (lookup k) rs a e = refl
 present_kept o size rs a e = refl
 present_kept o (modify k v) rs a e = modify_present k v (key_of o) rs a
@@ -151,7 +151,7 @@ found_kept : (o : Operation) (p : TableOperation) (rs : List Row) → Ascending 
     → allows (rule_at table_recoverable 2 (number_of (on_table p) - 7)) o (on_table p) ≡ true
     → found (key_of o) (table_next p rs) ≡ found (key_of o) rs
 found_kept o (table_insert k v) rs a e = found_other (table_insert k v) rs a (key_of o) (differ (key_of o) k e)
-found_kept o (tableDelete k) rs a e = found_other (tableDelete k) rs a (key_of o) (differ (key_of o) k e)
+found_kept o (table_delete k) rs a e = found_other (table_delete k) rs a (key_of o) (differ (key_of o) k e)
 found_kept o (lookup k) rs a e = refl
 found_kept o size rs a e = refl
 found_kept o (modify k v) rs a e = found_other (modify k v) rs a (key_of o) (differ (key_of o) k e)
@@ -160,7 +160,7 @@ keys_kept : (o : Operation) (p : TableOperation) (j : ℕ) (rs : List Row) → A
     → allows (rule_at table_recoverable 3 (number_of (on_table p) - 7)) o (on_table p) ≡ true
     → present j (table_next p rs) ≡ present j rs
 keys_kept o (table_insert k v) j rs a e = absurd (false≢true e)
-keys_kept o (tableDelete k) j rs a e = absurd (false≢true e)
+keys_kept o (table_delete k) j rs a e = absurd (false≢true e)
 keys_kept o (lookup k) j rs a e = refl
 keys_kept o size j rs a e = refl
 keys_kept o (modify k v) j rs a e = modify_present k v j rs a
@@ -169,7 +169,7 @@ pub table_view_recoverable : (o p : TableOperation) (rs : List Row) → Ascendin
     → recoverable (on_table o) (on_table p) ≡ true
     → table_view o (table_next p rs) ≡ table_view o rs
 table_view_recoverable (table_insert k v) p rs a e = present_kept (on_table (table_insert k v)) p rs a e
-table_view_recoverable (tableDelete k) p rs a e = present_kept (on_table (tableDelete k)) p rs a e
+table_view_recoverable (table_delete k) p rs a e = present_kept (on_table (table_delete k)) p rs a e
 table_view_recoverable (lookup k) p rs a e = found_kept (on_table (lookup k)) p rs a e
 table_view_recoverable size p rs a e = fun_ext (λ j. keys_kept (on_table size) p j rs a e)
 table_view_recoverable (modify k v) p rs a e = present_kept (on_table (modify k v)) p rs a e

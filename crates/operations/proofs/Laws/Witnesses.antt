@@ -5,8 +5,8 @@ use Rattle.std.proofs.Math.Bool.{and-eq-true_iff}
 use Rattle.std.proofs.Math.Option.{none, some}
 use Rattle.std.proofs.lemmas.Bool.{not-false}
 use Rattle.operations.specs.Operations.{Kind, Stack, Set, Table, Row, row, Answer, flag, valued, answering}
-use Rattle.operations.specs.Operations.{top_item, StackOperation, push, pop, top, SetOperation, setInsert}
-use Rattle.operations.specs.Operations.{setDelete, member, TableOperation, table_insert, tableDelete, lookup, size}
+use Rattle.operations.specs.Operations.{top_item, StackOperation, push, pop, top, SetOperation, set_insert}
+use Rattle.operations.specs.Operations.{set_delete, member, TableOperation, table_insert, table_delete, lookup, size}
 use Rattle.operations.specs.Operations.{modify, Operation, on_stack, on_set, on_table, kind_of, number_of, key_of}
 use Rattle.operations.specs.Operations.{value_of}
 use Rattle.operations.specs.Operations.{found, present, stack_next, stack_answer, set_next, set_answer, table_next}
@@ -25,11 +25,11 @@ abbrev pub witness : Operation → List Row
 witness (on_stack (push x)) = []
 witness (on_stack pop) = row 0 0 ∷ []
 witness (on_stack top) = []
-witness (on_set (setInsert k)) = []
-witness (on_set (setDelete k)) = row k 0 ∷ []
+witness (on_set (set_insert k)) = []
+witness (on_set (set_delete k)) = row k 0 ∷ []
 witness (on_set (member k)) = []
 witness (on_table (table_insert k v)) = []
-witness (on_table (tableDelete k)) = row k 0 ∷ []
+witness (on_table (table_delete k)) = row k 0 ∷ []
 witness (on_table (lookup k)) = []
 witness (on_table size) = []
 witness (on_table (modify k v)) = row k (1 - v) ∷ []
@@ -38,11 +38,11 @@ pub witness_holdable : (p : Operation) → key_of p < 2 ^ 32 → (length (witnes
 witness_holdable (on_stack (push x)) h = omega arith
 witness_holdable (on_stack pop) h = omega arith
 witness_holdable (on_stack top) h = omega arith
-witness_holdable (on_set (setInsert k)) h = omega arith
-witness_holdable (on_set (setDelete k)) h = omega arith
+witness_holdable (on_set (set_insert k)) h = omega arith
+witness_holdable (on_set (set_delete k)) h = omega arith
 witness_holdable (on_set (member k)) h = omega arith
 witness_holdable (on_table (table_insert k v)) h = omega arith
-witness_holdable (on_table (tableDelete k)) h = omega arith
+witness_holdable (on_table (table_delete k)) h = omega arith
 witness_holdable (on_table (lookup k)) h = omega arith
 witness_holdable (on_table size) h = omega arith
 witness_holdable (on_table (modify k v)) h = omega arith
@@ -54,13 +54,13 @@ module _ (reduce : ℕ → ℕ) where
   stack_witness top = tt
 
   set_witness : (p : SetOperation) → StoredKey reduce (on_set p) → WellFormed reduce Set (witness (on_set p))
-  set_witness (setInsert k) red = (tt, tt, tt)
-  set_witness (setDelete k) red = ((refl, tt), (red, tt), (tt, tt))
+  set_witness (set_insert k) red = (tt, tt, tt)
+  set_witness (set_delete k) red = ((refl, tt), (red, tt), (tt, tt))
   set_witness (member k) red = (tt, tt, tt)
 
   table_witness : (p : TableOperation) → StoredKey reduce (on_table p) → WellFormed reduce Table (witness (on_table p))
   table_witness (table_insert k v) red = (tt, tt)
-  table_witness (tableDelete k) red = ((red, tt), (tt, tt))
+  table_witness (table_delete k) red = ((red, tt), (tt, tt))
   table_witness (lookup k) red = (tt, tt)
   table_witness size red = (tt, tt)
   table_witness (modify k v) red = ((red, tt), (tt, tt))
@@ -111,7 +111,7 @@ present_turns : (o : Operation) (p : TableOperation)
     → allows (rule_at table_recoverable 1 (number_of (on_table p) - 7)) o (on_table p) ≡ false
     → present (key_of o) (table_next p (witness (on_table p))) ≡ not (present (key_of o) (witness (on_table p)))
 present_turns o (table_insert k v) e = rw (equal (key_of o) k e) (simp by_order_equal)
-present_turns o (tableDelete k) e = rw (equal (key_of o) k e) (simp by_order_equal)
+present_turns o (table_delete k) e = rw (equal (key_of o) k e) (simp by_order_equal)
 present_turns o (lookup k) e = absurd (true≢false e)
 present_turns o size e = absurd (true≢false e)
 present_turns o (modify k v) e = absurd (true≢false e)
@@ -122,7 +122,7 @@ lookup_differs : (o : Operation) (p : TableOperation)
     (valued (found (key_of o) (witness (on_table p))))
 lookup_differs o (table_insert k v) e =
     rw (equal (key_of o) k e) (simp by_order_equal (codes_differ (valued (some v)) (valued none) (omega arith)))
-lookup_differs o (tableDelete k) e =
+lookup_differs o (table_delete k) e =
     rw (equal (key_of o) k e) (simp by_order_equal (codes_differ (valued none) (valued (some 0)) (omega arith)))
 lookup_differs o (lookup k) e = absurd (true≢false e)
 lookup_differs o size e = absurd (true≢false e)
@@ -134,7 +134,7 @@ size_differs : (o : Operation) (p : TableOperation)
     → allows (rule_at table_recoverable 3 (number_of (on_table p) - 7)) o (on_table p) ≡ false
     → Differ (answering 1 (length (table_next p (witness (on_table p))))) (answering 1 (length (witness (on_table p))))
 size_differs o (table_insert k v) e = values_differ (answering 1 1) (answering 1 0) (omega arith)
-size_differs o (tableDelete k) e = simp by_order_equal (values_differ (answering 1 0) (answering 1 1) (omega arith))
+size_differs o (table_delete k) e = simp by_order_equal (values_differ (answering 1 0) (answering 1 1) (omega arith))
 size_differs o (lookup k) e = absurd (true≢false e)
 size_differs o size e = absurd (true≢false e)
 size_differs o (modify k v) e = absurd (true≢false e)
@@ -143,8 +143,8 @@ table_no : (o p : TableOperation) → recoverable (on_table o) (on_table p) ≡ 
     → Differ (table_answer o (table_next p (witness (on_table p)))) (table_answer o (witness (on_table p)))
 table_no (table_insert k v) p e =
     rw (present_turns (on_table (table_insert k v)) p e) (flags_differ (not (present k (witness (on_table p)))))
-table_no (tableDelete k) p e =
-    rw (present_turns (on_table (tableDelete k)) p e) (flags_differ (present k (witness (on_table p))))
+table_no (table_delete k) p e =
+    rw (present_turns (on_table (table_delete k)) p e) (flags_differ (present k (witness (on_table p))))
 table_no (lookup k) p e = lookup_differs (on_table (lookup k)) p e
 table_no size p e = size_differs (on_table size) p e
 table_no (modify k v) p e =
@@ -153,16 +153,16 @@ table_no (modify k v) p e =
 member_turns : (o : Operation) (p : SetOperation)
     → allows (rule_at set_recoverable 1 (number_of (on_set p) - 4)) o (on_set p) ≡ false
     → present (key_of o) (set_next p (witness (on_set p))) ≡ not (present (key_of o) (witness (on_set p)))
-member_turns o (setInsert k) e = rw (equal (key_of o) k e) (simp by_order_equal)
-member_turns o (setDelete k) e = rw (equal (key_of o) k e) (simp by_order_equal)
+member_turns o (set_insert k) e = rw (equal (key_of o) k e) (simp by_order_equal)
+member_turns o (set_delete k) e = rw (equal (key_of o) k e) (simp by_order_equal)
 member_turns o (member k) e = absurd (true≢false e)
 
 set_no : (o p : SetOperation) → recoverable (on_set o) (on_set p) ≡ false
     → Differ (set_answer o (set_next p (witness (on_set p)))) (set_answer o (witness (on_set p)))
-set_no (setInsert k) (setInsert j) e = absurd (true≢false e)
-set_no (setInsert k) (setDelete j) e = absurd (true≢false e)
-set_no (setInsert k) (member j) e = absurd (true≢false e)
-set_no (setDelete k) p e = rw (member_turns (on_set (setDelete k)) p e) (flags_differ (present k (witness (on_set p))))
+set_no (set_insert k) (set_insert j) e = absurd (true≢false e)
+set_no (set_insert k) (set_delete j) e = absurd (true≢false e)
+set_no (set_insert k) (member j) e = absurd (true≢false e)
+set_no (set_delete k) p e = rw (member_turns (on_set (set_delete k)) p e) (flags_differ (present k (witness (on_set p))))
 set_no (member k) p e = rw (member_turns (on_set (member k)) p e) (flags_differ (present k (witness (on_set p))))
 
 pub witness_differs : (kind : Kind) (o p : Operation) → kind_of o ≡ kind → kind_of p ≡ kind → recoverable o p ≡ false

@@ -3,8 +3,8 @@ use Rattle.std.specs.Prelude.{ℕ, ◌+◌, ◌-◌, ◌≤◌, ◌<◌, ◌≡�
 use Rattle.std.proofs.Math.Path.{refl, ap}
 use Rattle.std.proofs.Common.{sym, ◌∙◌, arith, length-append}
 use Rattle.std.proofs.Math.Option.{Option, none, some}
-use Rattle.operations.specs.Operations.{Stack, Row, answering, flag, valued, setInsert, setDelete, member, table_insert}
-use Rattle.operations.specs.Operations.{tableDelete, lookup, size, modify, Operation, on_stack, on_set, on_table, kind_of}
+use Rattle.operations.specs.Operations.{Stack, Row, answering, flag, valued, set_insert, set_delete, member, table_insert}
+use Rattle.operations.specs.Operations.{table_delete, lookup, size, modify, Operation, on_stack, on_set, on_table, kind_of}
 use Rattle.operations.specs.Operations.{key_of, value_of, number_of, next, answer, found, is_some}
 use Rattle.operations.proofs.Laws.Rows.{order, by_order_less, by_order_equal, by_order_greater, rows_at, alter, kept}
 use Rattle.operations.proofs.Laws.Rows.{dropped, replaced, inserted_alters, deleted_alters, modified_alters, alter_at}
@@ -67,18 +67,18 @@ module _ (rs : List Row) where
   count_inserted : (k v : ℕ) → length rs + 1 - (valued (found k rs)).code ≡ length (next (on_table (table_insert k v)) rs)
   count_inserted k v = rw (inserted_alters k v rs) (omega (arith, alter_counts k (kept v) rs, kept_code v (found k rs)))
 
-  count_deleted : (k : ℕ) → length rs - (valued (found k rs)).code ≡ length (next (on_table (tableDelete k)) rs)
+  count_deleted : (k : ℕ) → length rs - (valued (found k rs)).code ≡ length (next (on_table (table_delete k)) rs)
   count_deleted k = rw (deleted_alters k rs) (omega (arith, alter_counts k dropped rs))
 
   pub count_right : (o : Operation) → (kind_of o ≡ Stack → ⊥)
       → count_after (number_of o) (valued (found (key_of o) rs)).code (length rs) ≡ length (next o rs)
   unfolding count_after
   count_right (on_stack o) n = absurd (n refl)
-  count_right (on_set (setInsert k)) n = count_inserted k 0
-  count_right (on_set (setDelete k)) n = count_deleted k
+  count_right (on_set (set_insert k)) n = count_inserted k 0
+  count_right (on_set (set_delete k)) n = count_deleted k
   count_right (on_set (member k)) n = refl
   count_right (on_table (table_insert k v)) n = count_inserted k v
-  count_right (on_table (tableDelete k)) n = count_deleted k
+  count_right (on_table (table_delete k)) n = count_deleted k
   count_right (on_table (lookup k)) n = refl
   count_right (on_table size) n = refl
   count_right (on_table (modify k v)) n =
@@ -90,11 +90,11 @@ module _ (rs : List Row) where
       → keyed_answer (number_of o) (valued (found (key_of o) rs)) (length rs) ≡ answer o rs
   unfolding keyed_answer
   answer_right (on_stack o) n = absurd (n refl)
-  answer_right (on_set (setInsert k)) n = refl
-  answer_right (on_set (setDelete k)) n = is_there (found k rs)
+  answer_right (on_set (set_insert k)) n = refl
+  answer_right (on_set (set_delete k)) n = is_there (found k rs)
   answer_right (on_set (member k)) n = is_there (found k rs)
   answer_right (on_table (table_insert k v)) n = is_absent (found k rs)
-  answer_right (on_table (tableDelete k)) n = is_there (found k rs)
+  answer_right (on_table (table_delete k)) n = is_there (found k rs)
   answer_right (on_table (lookup k)) n = refl
   answer_right (on_table size) n = refl
   answer_right (on_table (modify k v)) n = is_there (found k rs)
@@ -103,11 +103,11 @@ module _ (rs : List Row) where
 
   pub ordered_next : (o : Operation) → Ordered (kind_of o) rs → Ordered (kind_of o) (next o rs)
   ordered_next (on_stack o) a = tt
-  ordered_next (on_set (setInsert k)) a = rw inserted_alters (alter_ascending k (kept 0) rs a)
-  ordered_next (on_set (setDelete k)) a = rw deleted_alters (alter_ascending k dropped rs a)
+  ordered_next (on_set (set_insert k)) a = rw inserted_alters (alter_ascending k (kept 0) rs a)
+  ordered_next (on_set (set_delete k)) a = rw deleted_alters (alter_ascending k dropped rs a)
   ordered_next (on_set (member k)) a = a
   ordered_next (on_table (table_insert k v)) a = rw inserted_alters (alter_ascending k (kept v) rs a)
-  ordered_next (on_table (tableDelete k)) a = rw deleted_alters (alter_ascending k dropped rs a)
+  ordered_next (on_table (table_delete k)) a = rw deleted_alters (alter_ascending k dropped rs a)
   ordered_next (on_table (lookup k)) a = a
   ordered_next (on_table size) a = a
   ordered_next (on_table (modify k v)) a = rw modified_alters (alter_ascending k (replaced v) rs a)
@@ -116,13 +116,13 @@ module _ (rs : List Row) where
       → state_after (number_of o) (value_of o) (valued (found (key_of o) rs)) ≡ valued (found (key_of o) (next o rs))
   unfolding state_after
   changed_right (on_stack o) n a = absurd (n refl)
-  changed_right (on_set (setInsert k)) n a =
+  changed_right (on_set (set_insert k)) n a =
       rw inserted_alters (inserts 0 (found k rs) ∙ ap valued (sym (alter_at k (kept 0) rs a)))
-  changed_right (on_set (setDelete k)) n a = rw deleted_alters (ap valued (sym (alter_at k dropped rs a)))
+  changed_right (on_set (set_delete k)) n a = rw deleted_alters (ap valued (sym (alter_at k dropped rs a)))
   changed_right (on_set (member k)) n a = refl
   changed_right (on_table (table_insert k v)) n a =
       rw inserted_alters (inserts v (found k rs) ∙ ap valued (sym (alter_at k (kept v) rs a)))
-  changed_right (on_table (tableDelete k)) n a = rw deleted_alters (ap valued (sym (alter_at k dropped rs a)))
+  changed_right (on_table (table_delete k)) n a = rw deleted_alters (ap valued (sym (alter_at k dropped rs a)))
   changed_right (on_table (lookup k)) n a = refl
   changed_right (on_table size) n a = refl
   changed_right (on_table (modify k v)) n a =
@@ -131,11 +131,11 @@ module _ (rs : List Row) where
   pub found_other : (o : Operation) → (kind_of o ≡ Stack → ⊥) → Ordered (kind_of o) rs → (j : ℕ) → (j ≡ key_of o → ⊥)
       → found j (next o rs) ≡ found j rs
   found_other (on_stack o) n a j d = absurd (n refl)
-  found_other (on_set (setInsert k)) n a j d = rw inserted_alters (alter_apart k (kept 0) j rs d a)
-  found_other (on_set (setDelete k)) n a j d = rw deleted_alters (alter_apart k dropped j rs d a)
+  found_other (on_set (set_insert k)) n a j d = rw inserted_alters (alter_apart k (kept 0) j rs d a)
+  found_other (on_set (set_delete k)) n a j d = rw deleted_alters (alter_apart k dropped j rs d a)
   found_other (on_set (member k)) n a j d = refl
   found_other (on_table (table_insert k v)) n a j d = rw inserted_alters (alter_apart k (kept v) j rs d a)
-  found_other (on_table (tableDelete k)) n a j d = rw deleted_alters (alter_apart k dropped j rs d a)
+  found_other (on_table (table_delete k)) n a j d = rw deleted_alters (alter_apart k dropped j rs d a)
   found_other (on_table (lookup k)) n a j d = refl
   found_other (on_table size) n a j d = refl
   found_other (on_table (modify k v)) n a j d = rw modified_alters (alter_apart k (replaced v) j rs d a)

@@ -2,8 +2,8 @@
 use Rattle.std.specs.Prelude.{ℕ, suc, ◌+◌, ◌-◌, ◌≤◌, ◌<◌, ◌≡◌, refl, Bool, true, false, cond, List, [], ◌∷◌, length}
 use Rattle.std.proofs.Common.{sym, ap, ◌∙◌, arith, ne_eqb, length-append, length-take}
 use Rattle.std.proofs.Math.Option.{Option, none, some, none-ne-some}
-use Rattle.operations.specs.Operations.{Row, row, Answer, push, pop, top, setInsert, setDelete, member, table_insert}
-use Rattle.operations.specs.Operations.{tableDelete, lookup, size, modify, Operation, on_stack, on_set, on_table, kind_of}
+use Rattle.operations.specs.Operations.{Row, row, Answer, push, pop, top, set_insert, set_delete, member, table_insert}
+use Rattle.operations.specs.Operations.{table_delete, lookup, size, modify, Operation, on_stack, on_set, on_table, kind_of}
 use Rattle.operations.specs.Operations.{next, All}
 use Rattle.operations.specs.Log.{Entry}
 use Rattle.operations.proofs.Laws.Cases.{same}
@@ -31,7 +31,7 @@ module _ (k : ℕ) (rs : List Row) where
   inserted_grows : (v : ℕ) → length (next (on_table (table_insert k v)) rs) ≤ length rs + 1
   inserted_grows v = rw (inserted_alters k v rs) (alter_grows k (kept v) 1 (omega arith) (λ w. omega arith) rs)
 
-  deleted_grows : length (next (on_table (tableDelete k)) rs) ≤ length rs + 0
+  deleted_grows : length (next (on_table (table_delete k)) rs) ≤ length rs + 0
   deleted_grows = rw (deleted_alters k rs) (alter_grows k dropped 0 (omega arith) (λ w. omega arith) rs)
 
   modified_grows : (v : ℕ) → length (next (on_table (modify k v)) rs) ≤ length rs + 0
@@ -42,11 +42,11 @@ pub grows : (o : Operation) (rs : List Row) → length (next o rs) ≤ length rs
 grows (on_stack (push x)) rs = omega (arith, length-append rs (row x 0 ∷ []))
 grows (on_stack pop) rs = omega (arith, length-take (length rs - 1) rs)
 grows (on_stack top) rs = omega arith
-grows (on_set (setInsert k)) rs = inserted_grows k rs 0
-grows (on_set (setDelete k)) rs = deleted_grows k rs
+grows (on_set (set_insert k)) rs = inserted_grows k rs 0
+grows (on_set (set_delete k)) rs = deleted_grows k rs
 grows (on_set (member k)) rs = omega arith
 grows (on_table (table_insert k v)) rs = inserted_grows k rs v
-grows (on_table (tableDelete k)) rs = deleted_grows k rs
+grows (on_table (table_delete k)) rs = deleted_grows k rs
 grows (on_table (lookup k)) rs = omega arith
 grows (on_table size) rs = omega arith
 grows (on_table (modify k v)) rs = modified_grows k rs v

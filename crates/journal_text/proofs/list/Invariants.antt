@@ -1,0 +1,11 @@
+-- `list`: what is printed is the lines of the records before the place.
+use Prim.Native.Nat.{◌-◌}
+use lib.ListN.{length}
+use Rattle.journal_text.specs.Laws.Printing.{Printed}
+use Rattle.journal_text.proofs.list.Given as goal
+
+abbrev pub invariant-loop-cause : goal.invariant-loop-cause
+invariant-loop-cause l = Printed l.bytes l.initial.out l.at l.out l.written
+
+abbrev pub decreases-loop-cause : goal.decreases-loop-cause
+decreases-loop-cause l = length l.bytes - l.at
