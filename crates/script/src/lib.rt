@@ -16,7 +16,7 @@ pub const LINE: usize = 1 + (1 + text::MOST_DIGITS) * lines::MOST_ARGUMENTS + 1;
 const LINE_FEED: u8 = b'\n';
 
 // How far a block was taken, how many bytes of a line are kept, how many are to be printed, and how many recorded.
-#[derive(Drop)]
+#[derive(Clone, Copy)]
 pub struct Progress {
     pub at: usize,
     pub kept: usize,

@@ -61,7 +61,6 @@ module _ (w line block : List ℕ) (at : ℕ) (few : length line ≤ 717) (withi
   rest = drop at block
 
   place : end - at ≡ index_of (code "\n") rest
-  unfolding slice
   place =
       let all : index_of (code "\n") (drop at (take (length block) block)) ≡ index_of (code "\n") rest =
       ap (λ (l : List ℕ). index_of (code "\n") (drop at l)) (take_all (length block) block (omega arith)) in
