@@ -7,23 +7,23 @@ use Rattle.capi.proofs.Laws.{few_counted, either_counted, exports_answers}
 use Rattle.capi.proofs.lending_desk_batch.Statement.{statement}
 use Rattle.capi.proofs.lending_desk_batch.Tie as tie
 
-few : (c : tie.After-batch) → c.batch.result.count ≤ 16
-few c = few_counted c.batch.result c.batch.ensures.1 _ _ _ _ c.batch.ensures.0
+few : (c : tie.After-batch-batched) → c.batch-batched.result.count ≤ 16
+few c = few_counted c.batch-batched.result c.batch-batched.ensures.1 _ _ _ _ c.batch-batched.ensures.0
 
-cast_count : tie.Need-overflow_cast-t10
+cast_count : tie.Need-overflow_cast-result
 cast_count c = omega (arith, few c.before.before.before.before.before)
 
-add_count : tie.Need-overflow_add-t11
+add_count : tie.Need-overflow_add-result
 add_count c =
     let called = c.before.before.before.before.before.before in
     ⊎_elim (λ e. omega (arith, e, few called)) (λ e. omega (arith, e))
-    (either_counted called.batch.result called.batch.ensures.1 _ c.before.before.Numbers-of.ensures)
+    (either_counted called.batch-batched.result called.batch-batched.ensures.1 _ c.before.before.numbers_of-n.ensures)
 
 written : tie.Need-returns
 written c =
     let called = c.before.before.before.before.before.before in
-    exports_answers called.batch.result called.batch.ensures.1 _ c.before.before.Numbers-of.ensures _
-    called.batch.ensures.0
+    exports_answers called.batch-batched.result called.batch-batched.ensures.1 _ c.before.before.numbers_of-n.ensures _
+    called.batch-batched.ensures.0
 
 pub lending_desk_batch_spec : {M : Type 1} → statement M
 lending_desk_batch_spec =

@@ -6,7 +6,7 @@ use Rattle.capi.proofs.lending_desk_begin.Statement.{statement}
 use Rattle.capi.proofs.lending_desk_begin.Tie as tie
 
 written : tie.Need-returns
-written c = exports accepted _ _ _ c.Numbers-of.ensures c.before.before.before.begin.ensures
+written c = exports accepted _ _ _ c.numbers_of-n.ensures c.before.before.before.begin.ensures
 
 pub lending_desk_begin_spec : {M : Type 1} → statement M
 lending_desk_begin_spec = tie.close (tie.spec (λ c κs. search rules) (λ c κs. search rules) (λ c. search rules) written)

@@ -6,7 +6,7 @@ use Rattle.capi.proofs.lending_desk_cancel.Statement.{statement}
 use Rattle.capi.proofs.lending_desk_cancel.Tie as tie
 
 written : tie.Need-returns
-written c = exports ended _ _ _ c.Numbers-of.ensures c.before.before.before.before.before.cancel.ensures
+written c = exports ended _ _ _ c.numbers_of-n.ensures c.before.before.before.before.before.cancel.ensures
 
 pub lending_desk_cancel_spec : {M : Type 1} → statement M
 lending_desk_cancel_spec =

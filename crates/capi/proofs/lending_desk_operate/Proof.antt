@@ -6,7 +6,7 @@ use Rattle.capi.proofs.lending_desk_operate.Statement.{statement}
 use Rattle.capi.proofs.lending_desk_operate.Tie as tie
 
 written : tie.Need-returns
-written c = exports operated _ _ _ c.Numbers-of.ensures c.before.before.before.operate.ensures
+written c = exports operated _ _ _ c.numbers_of-n.ensures c.before.before.before.operate.ensures
 
 pub lending_desk_operate_spec : {M : Type 1} → statement M
 lending_desk_operate_spec =

@@ -6,7 +6,7 @@ use Rattle.capi.proofs.lending_desk_set_up.Statement.{statement}
 use Rattle.capi.proofs.lending_desk_set_up.Tie as tie
 
 written : tie.Need-returns
-written c = exports accepted _ _ _ c.Numbers-of.ensures c.before.before.before.set-up.ensures
+written c = exports accepted _ _ _ c.numbers_of-n.ensures c.before.before.before.set_up.ensures
 
 pub lending_desk_set_up_spec : {M : Type 1} → statement M
 lending_desk_set_up_spec =

@@ -4,15 +4,15 @@ use Rattle.capi.proofs.Laws.Records.{says_counted, says_uncounted}
 use Rattle.capi.proofs.records.lending_desk_count_records.Statement.{statement}
 use Rattle.capi.proofs.records.lending_desk_count_records.Tie as tie
 
-counted : tie.Need-returns
+counted : tie.Need-returns-in-Records
 counted c =
-    let told = c.before in
-    says_counted _ told.before.before.read.ensures told.count.given.1
+    let told = c in
+    says_counted _ told.read-count.ensures c.in-Records.is
 
-uncounted : tie.Need-returns-2
+uncounted : tie.Need-returns-in-Bad
 uncounted c =
-    let told = c.before.before in
-    says_uncounted _ told.before.before.read.ensures told.count2.given.1 _ c.number_of_lem.ensures
+    let told = c in
+    says_uncounted _ told.read-count.ensures c.in-Bad.is _ c.number_of.ensures
 
 pub lending_desk_count_records_spec : {M : Type 1} → statement M
 lending_desk_count_records_spec =

@@ -4,22 +4,22 @@ use Rattle.capi.proofs.Laws.Records.{says_record, says_end, says_bad}
 use Rattle.capi.proofs.records.lending_desk_next_record.Statement.{statement}
 use Rattle.capi.proofs.records.lending_desk_next_record.Tie as tie
 
-found : tie.Need-returns
+found : tie.Need-returns-in-Behind
 found c =
-    let told = c.before in
-    let read = told.before.before.before in
-    says_record _ read.next.result read.next.ensures told.there.given.1
+    let told = c in
+    let read = told in
+    says_record _ read.next-reading.result read.next-reading.ensures c.in-Behind.is
 
-ended : tie.Need-returns-2
+ended : tie.Need-returns-in-End
 ended c =
-    let read = c.before.before.before in
-    says_end _ read.next.result read.next.ensures c.enum_told.given.1
+    let read = c in
+    says_end _ read.next-reading.result read.next-reading.ensures c.in-End.is
 
-bad : tie.Need-returns-3
+bad : tie.Need-returns-in-Bad
 bad c =
-    let told = c.before.before in
-    let read = told.before.before.before in
-    says_bad _ read.next.result read.next.ensures told.there2.given.1 _ c.number_of_lem.ensures
+    let told = c in
+    let read = told in
+    says_bad _ read.next-reading.result read.next-reading.ensures c.in-Bad.is _ c.number_of.ensures
 
 pub lending_desk_next_record_spec : {M : Type 1} → statement M
 lending_desk_next_record_spec =
