@@ -1,0 +1,17 @@
+-- `resuming::replay`: a record that is confirmed is behind those before it.
+use Rattle.std.proofs.Common.{refl, ◌∙◌, arith}
+use Rattle.resuming.specs.Resuming.{here}
+use Rattle.resuming.specs.Laws.Chains.{goes_on}
+use Rattle.resuming.proofs.replay.Goals as goal
+
+pub loop-behind-init : goal.loop-behind-init
+loop-behind-init c = (here, omega arith, refl)
+
+pub loop-behind-preserved : goal.loop-behind-preserved
+loop-behind-preserved c =
+    let loop = c.loop-behind in
+    let found = c.resume-found in
+    let (replayed, onward, within) =
+    goes_on c.args.book.now c.args.bytes.now loop.at loop.invariant.0 found.new.book found.result found.ensures
+    c.in-Again.is in
+    (replayed, within, found.auto.book ∙ loop.invariant.2)
