@@ -1,5 +1,5 @@
 -- What each call that a line may ask for leaves.
-use Rattle.std.specs.Prelude.{ℕ, ◌≤◌, ◌≡◌, refl, List, [], length, take}
+use Rattle.std.specs.Prelude.{ℕ, ◌≤◌, ◌≡◌, List, [], length, take}
 use Rattle.std.proofs.Common.{sym, ap, ◌∙◌, arith, take_all}
 use Rattle.std.proofs.Math.Path.{subst⁻¹}
 use Rattle.std.proofs.Math.Option.{Option, none, some}
@@ -7,7 +7,6 @@ use Rattle.protocol.specs.Replies as protocol
 use Rattle.protocol.specs.Replies.{outcome, served}
 use Rattle.protocol.specs.Call.{Call, batch, desk}
 use Rattle.protocol.specs.ReplyOf.{reply_of, batched_of, Filled}
-use Rattle.protocol.specs.declared.Batched.{Batched}
 use Rattle.protocol.specs.declared.Reply.{Reply}
 use Rattle.lines.specs.Lines.{lent}
 use Rattle.lines.specs.Coded.{call_of}
