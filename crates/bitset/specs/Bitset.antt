@@ -1,5 +1,6 @@
 -- A set of transactions, numbered from 0, as the binary digits of a number.
-use Rattle.std.specs.Prelude.{ℕ, zero, suc, ◌<◌, ◌/◌, ◌%◌, ◌^◌, ◌≡◌, Bool, true, false, ◌↔◌, List, [], ◌∷◌, eqb, get_or, length}
+use Rattle.std.specs.Prelude.{ℕ, zero, suc, ◌<◌, ◌/◌, ◌%◌, ◌^◌, ◌≡◌, Bool, true, false, ◌↔◌, List, [], ◌∷◌, eqb, get_or}
+use Rattle.std.specs.Prelude.{length}
 use Rattle.std.specs.Int.Bits.{bit_or}
 
 -- Transaction h is a member of the set s where bit h of s is 1.

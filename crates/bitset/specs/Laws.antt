@@ -2,7 +2,9 @@
 -- their members, by predicates that tell them, and one by one.
 use Rattle.std.specs.Prelude.{◌≡◌, Bool, cond, ◌&&◌, ◌||◌, ◌↔◌, ◌⊎◌, length}
 use Rattle.std.proofs.Math.Path.{refl, ap, ap₂}
-use Rattle.std.proofs.Common.{sym, ◌∙◌, subst, true≢false, inl, inr, zero-lt-suc, not-suc-le-zero, lt_of_not-le, lt_of_lt_of_le, mod-lt, mod-eq_of_lt, one-mul, eq-or-lt_of_le, pow-suc, div-one, one-add, add-one, arith, eqb-true, eq-eqb, ne_eqb, pow_mono, shr-shr}
+use Rattle.std.proofs.Common.{sym, ◌∙◌, subst, true≢false, inl, inr, zero-lt-suc, not-suc-le-zero, lt_of_not-le}
+use Rattle.std.proofs.Common.{lt_of_lt_of_le, mod-lt, mod-eq_of_lt, one-mul, eq-or-lt_of_le, pow-suc, div-one, one-add}
+use Rattle.std.proofs.Common.{add-one, arith, eqb-true, eq-eqb, ne_eqb, pow_mono, shr-shr}
 use mathlib.Core.List.{List, ◌∷◌}
 use Rattle.std.proofs.Math.Bool.{true, false, not, and-eq-true_iff, and-true, and-false}
 use Rattle.std.proofs.lemmas.Bool.{false≢true, eqb-false, not-true}
@@ -262,8 +264,11 @@ holds_without P s t u p m b = (
 
 -- A set that is 0 exactly where the predicate tells nobody.
 pub holds_empty : (P : ℕ → Type 0) (s : ℕ) → Holds s P → (s ≡ 0) ↔ ((b : ℕ) → P b → ⊥)
-holds_empty P s p =
-    (λ e b q. nobody_in s b e ((p b).1 q), λ none. no_members s (λ b. eq-false_of_not-eq-true (λ m. none b ((p b).0 m))))
+holds_empty P s p = (
+  λ e b q. nobody_in s b e ((p b).1 q),
+  λ none. no_members s (λ b. eq-false_of_not-eq-true (λ m. none b
+      ((p b).0 m))),
+)
 
 -- Members below 64 alone make a set of 64 bits.
 pub below_64 : (s : ℕ) → ((h : ℕ) → In s h → h < 64) → s < 2 ^ 64

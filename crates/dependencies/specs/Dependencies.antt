@@ -1,9 +1,11 @@
 -- Pairs of log entries that do not commute, or of which the later is not recoverable against the earlier, by index;
 -- and sets of the owners of entries.
-use Rattle.std.specs.Prelude.{ℕ, ◌+◌, ◌<◌, ◌≡◌, Bool, true, false, not, ◌&&◌, ◌||◌, cond, ◌⊎◌, List, [], eqb, length, get_or}
+use Rattle.std.specs.Prelude.{ℕ, ◌+◌, ◌<◌, ◌≡◌, Bool, true, false, not, ◌&&◌, ◌||◌, cond, ◌⊎◌, List, [], eqb, length}
+use Rattle.std.specs.Prelude.{get_or}
 use Rattle.operations.specs.Operations.{Kind, Operation}
 use Rattle.operations.specs.PairRules.{Rule, always, never, apart, equal, agreeing, Rules, rule_at}
-use Rattle.operations.specs.PairRules.{Numbered, kind_numbered, recoverable, commutes, recoverable_rules, commuting_rules}
+use Rattle.operations.specs.PairRules.{Numbered, kind_numbered, recoverable, commutes, recoverable_rules}
+use Rattle.operations.specs.PairRules.{commuting_rules}
 use Rattle.bitset.specs.Bitset.{has, Members, In, Holds, Represents}
 use Rattle.pairs.specs.Pairs.{first_of, column_of, width_of}
 use Rattle.store.specs.Layout.{operation_at}

@@ -1,5 +1,6 @@
 -- What was told, put into buffers.
-use Rattle.std.specs.Prelude.{ℕ, ◌+◌, ◌-◌, ◌≤◌, ◌≡◌, refl, Bool, true, false, cond, List, [], ◌∷◌, ◌++◌, length, take, replicate}
+use Rattle.std.specs.Prelude.{ℕ, ◌+◌, ◌-◌, ◌≤◌, ◌≡◌, refl, Bool, true, false, cond, List, [], ◌∷◌, ◌++◌, length, take}
+use Rattle.std.specs.Prelude.{replicate}
 use Rattle.std.proofs.Common.{sym, ◌∙◌, append-nil, arith, length-append, take_at}
 use Rattle.std.proofs.Math.Path.{ap, subst, subst⁻¹}
 use Rattle.std.proofs.Math.Option.{Option, none, some}

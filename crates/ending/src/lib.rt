@@ -6,7 +6,8 @@ ghost use Rattle.store.specs.Store.{list_length, transaction_count, Active, pseu
 ghost use Rattle.store.specs.Layout.{Packed, base, decode, encode};
 ghost use Rattle.store.specs.Soundness.{EntriesFit, Room};
 ghost use Rattle.store.specs.Dependency.{Ready};
-ghost use Rattle.protocol.specs.Ending.{carried_out, ended, commit as Commit, lowest_ready as LowestReady, settled_all, committed_first};
+ghost use Rattle.protocol.specs.Ending.{carried_out, ended, commit as Commit, lowest_ready as LowestReady, settled_all};
+ghost use Rattle.protocol.specs.Ending.{committed_first};
 ghost use Rattle.ending.specs.Nobody.{Names};
 ghost use Rattle.ending.specs.Ending.{Tracked, Forgotten, Concluded, pseudo_commit as PseudoCommit};
 

@@ -28,7 +28,8 @@ EntryLive w i = Live (decode base w) (word w (entry_start i))
 
 -- fits its object's kind,
 abbrev pub EntryOfKind : List ℕ → ℕ → Type 0
-EntryOfKind w i = (object_of (decode base w) (word w (entry_start i + 1))).kind ≡ some (model.kind_of (operation_at w i))
+EntryOfKind w i = (object_of (decode base w) (word w (entry_start i + 1))).kind ≡ some (model.kind_of
+    (operation_at w i))
 
 -- and its key is reduced.
 abbrev pub EntryKeyReduced : List ℕ → ℕ → Type 0

@@ -2,7 +2,8 @@
 -- The crate `traces` proves that the events are those of the desk.
 use Rattle.std.specs.Prelude.{ℕ, ◌≡◌, refl, false, List, [], ◌∷◌, map, get_or, replicate}
 use Rattle.std.proofs.Common.{ap, arith}
-use Rattle.operations.specs.Operations.{Operation, on_stack, on_set, on_table, push, pop, top, member, table_insert, lookup}
+use Rattle.operations.specs.Operations.{Operation, on_stack, on_set, on_table, push, pop, top, member, table_insert}
+use Rattle.operations.specs.Operations.{lookup}
 use Rattle.operations.specs.Operations.{size, modify, Answer, answering, row, reduce_key, by_order}
 use Rattle.operations.specs.Log.{one}
 use Rattle.store.specs.Store.{Logged}

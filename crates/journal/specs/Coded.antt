@@ -23,7 +23,8 @@ or_zero (some n) = n
 
 -- How many arguments a letter has, with so many operations where it is a batch's.
 abbrev pub argument_count : ℕ → ℕ → ℕ
-argument_count letter operations = or_zero (arguments_of letter) + cond (is_batch letter) (operation_words * operations) 0
+argument_count letter operations = or_zero (arguments_of letter) + cond (is_batch letter)
+    (operation_words * operations) 0
 
 -- How many numbers the answers have.
 abbrev pub answer_count : ℕ → ℕ → ℕ

@@ -1,5 +1,6 @@
 -- 02, No. 3: a record of the journal as a value and as bytes, a file of records, and what a writer says.
-use Rattle.std.specs.Prelude.{ℕ, ◌+◌, ◌*◌, ◌-◌, ◌/◌, ◌%◌, Bool, true, false, cond, not, ◌&&◌, ◌||◌, List, [], ◌∷◌, ◌++◌, eqb, ltb, leb, length, take, drop}
+use Rattle.std.specs.Prelude.{ℕ, ◌+◌, ◌*◌, ◌-◌, ◌/◌, ◌%◌, Bool, true, false, cond, not, ◌&&◌, ◌||◌, List, [], ◌∷◌, ◌++◌}
+use Rattle.std.specs.Prelude.{eqb, ltb, leb, length, take, drop}
 use Prim.Native.Char.{code}
 use Rattle.std.proofs.Math.Option.{Option, none, some}
 use Rattle.store.specs.Store.{object_count, transaction_count, list_length}
@@ -120,7 +121,8 @@ arguments_fit letter arguments (some count) =
 -- A reply that calls of the letter give, with as many answers as operations, and a list of at most 64.
 abbrev pub reply_fits : ℕ → List ℕ → Reply → Bool
 reply_fits letter arguments nothing = not (has_reply letter)
-reply_fits letter arguments (wait owners) = gives letter wait_code && leb (length owners) list_length && ascending 0 owners
+reply_fits letter arguments (wait owners) = gives letter wait_code && leb (length owners) list_length
+    && ascending 0 owners
 reply_fits letter arguments (answered answers) =
     gives letter answered_code && eqb (length answers) (2 * operations_of letter arguments)
 reply_fits letter arguments (ended replyCode list) =

@@ -1,5 +1,5 @@
-// The journal: definitions of its bytes, of a writer and of a reader, and theorems about them, in specs/; and the types
-// of records.
+// The journal: definitions of its bytes, of a writer and of a reader, and theorems about them, in specs/ and
+// proofs/; and the types of records.
 #![tactic(auto)]
 
 use protocol::{BATCH, OPERATION_WORDS};

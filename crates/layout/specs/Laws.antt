@@ -1,6 +1,8 @@
 -- Laws for the functions of `layout`.
-use Rattle.std.specs.Prelude.{ℕ, ◌+◌, ◌-◌, ◌*◌, ◌≤◌, ◌<◌, ◌≡◌, refl, true, false, ◌↔◌, List, [], ◌∷◌, ◌++◌, map, eqb, ltb, length, set, take, drop, replicate}
-use Rattle.std.proofs.Common.{sym, ap, ap₂, ◌∙◌, subst, append-nil, not-suc-le-zero, add-one, arith, ltb-true, ltb-false, eqb-true, eq-eqb, length-drop, take-suc-set, get_or-drop, take_all}
+use Rattle.std.specs.Prelude.{ℕ, ◌+◌, ◌-◌, ◌*◌, ◌≤◌, ◌<◌, ◌≡◌, refl, true, false, ◌↔◌, List, [], ◌∷◌, ◌++◌, map, eqb}
+use Rattle.std.specs.Prelude.{ltb, length, set, take, drop, replicate}
+use Rattle.std.proofs.Common.{sym, ap, ap₂, ◌∙◌, subst, append-nil, not-suc-le-zero, add-one, arith, ltb-true}
+use Rattle.std.proofs.Common.{ltb-false, eqb-true, eq-eqb, length-drop, take-suc-set, get_or-drop, take_all}
 use Rattle.std.proofs.lemmas.List.{map-append}
 use Rattle.std.specs.Int.Bits.{bit_or, or_add_and, or_self}
 use Rattle.std.proofs.lemmas.Nat.{and_le_l, and_le_r}

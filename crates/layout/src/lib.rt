@@ -4,7 +4,8 @@
 ghost use Rattle.std.specs.Prelude.{◌≡◌, true, ◌↔◌, ℕ, ◌+◌, ◌*◌, ◌<◌, ◌≤◌, length, replicate};
 ghost use Rattle.store.specs.Store.{entry_limit, object_count};
 ghost use Rattle.operations.specs.Operations.{row_limit};
-ghost use Rattle.store.specs.Layout.{BookLong, word, tabulate, entry_start, object_start as ObjectStart, rows_start as RowsStart, row_at, rows_at};
+ghost use Rattle.store.specs.Layout.{BookLong, word, tabulate, entry_start, object_start as ObjectStart};
+ghost use Rattle.store.specs.Layout.{rows_start as RowsStart, row_at, rows_at};
 ghost use Rattle.replay.specs.Replay.{rows_of};
 ghost use Rattle.layout.specs.Rows.{row_in};
 

@@ -1,7 +1,8 @@
 -- Document 01, "Operations and their replies": what each operation does to an object's rows, and what it answers. Rows
 -- are of any number ("without limits"). Arguments are as stored: only `stored` reduces a key, by the reduction that it
 -- is given.
-use Rattle.std.specs.Prelude.{ℕ, ◌-◌, ◌%◌, ◌^◌, ◌≤◌, ◌<◌, ◌≡◌, Bool, true, false, not, cond, List, [], ◌∷◌, ◌++◌, map, ltb, eqb, length, get_or, take}
+use Rattle.std.specs.Prelude.{ℕ, ◌-◌, ◌%◌, ◌^◌, ◌≤◌, ◌<◌, ◌≡◌, Bool, true, false, not, cond, List, [], ◌∷◌, ◌++◌, map}
+use Rattle.std.specs.Prelude.{ltb, eqb, length, get_or, take}
 use Rattle.std.proofs.Math.Option.{Option, none, some}
 
 -- The kinds of object, 1 to 3. Kind 0, none, has no rows and no operations.
@@ -75,7 +76,8 @@ abbrev pub numbered : (ℕ → ℕ) → ℕ → ℕ → List Operation
 numbered reduce k v =
     on_stack (push k) ∷ on_stack pop ∷ on_stack top
     ∷ on_set (set_insert (reduce k)) ∷ on_set (set_delete (reduce k)) ∷ on_set (member (reduce k))
-    ∷ on_table (table_insert (reduce k) v) ∷ on_table (table_delete (reduce k)) ∷ on_table (lookup (reduce k)) ∷ on_table size
+    ∷ on_table (table_insert (reduce k) v) ∷ on_table (table_delete (reduce k)) ∷ on_table (lookup (reduce k))
+    ∷ on_table size
     ∷ on_table (modify (reduce k) v)
     ∷ []
 

@@ -1,6 +1,7 @@
 -- Document 01, "Pair rules": a requested operation against one already logged, on one object; the commuting tables as
 -- document 02, No. 5, refines them.
-use Rattle.std.specs.Prelude.{ℕ, ◌-◌, ◌≤◌, ◌≡◌, Bool, true, false, not, cond, ◌&&◌, ◌||◌, List, [], ◌∷◌, eqb, leb, get_or}
+use Rattle.std.specs.Prelude.{ℕ, ◌-◌, ◌≤◌, ◌≡◌, Bool, true, false, not, cond, ◌&&◌, ◌||◌, List, [], ◌∷◌, eqb, leb}
+use Rattle.std.specs.Prelude.{get_or}
 use Rattle.operations.specs.Operations.{Kind, Stack, Set, Table, Row, Operation, kind_of, number_of, key_of}
 use Rattle.operations.specs.Operations.{value_of, next, answer, WellFormed}
 

@@ -3,7 +3,8 @@ use Rattle.std.specs.Prelude.{ℕ, ◌+◌, ◌-◌, ◌<◌, ◌≡◌, Bool, f
 use Rattle.std.proofs.Math.Option.{Option, none, some}
 use Rattle.operations.specs.Operations as model
 use Rattle.operations.specs.PairRules.{Rule, always, never, apart, equal, agreeing, Rules, allows, rule_at}
-use Rattle.operations.specs.PairRules.{first_number, last_number, OfKind, kind_numbered, recoverable_rules, commuting_rules}
+use Rattle.operations.specs.PairRules.{first_number, last_number, OfKind, kind_numbered, recoverable_rules}
+use Rattle.operations.specs.PairRules.{commuting_rules}
 use Rattle.operations.specs.declared.Operation.{Operation}
 use Rattle.operations.specs.Stored.{operation_of}
 
@@ -63,7 +64,8 @@ width_of number = last_of number + 1 - first_of number
 -- The codes for a requested operation, one for each logged one of its kind.
 abbrev pub RowOf : (model.Kind → Rules) → ℕ → List ℕ → Type 0
 RowOf rules requested row =
-    (m : ℕ) → m < width_of requested → get_or row m 0 ≡ code_at (rules (kind_numbered requested)) (column_of requested) m
+    (m : ℕ) → m < width_of requested → get_or row m 0 ≡ code_at (rules (kind_numbered requested))
+    (column_of requested) m
 
 -- Its rows in both tables.
 abbrev pub RowsOf : ℕ → List ℕ → List ℕ → Type 0

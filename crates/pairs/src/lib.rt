@@ -4,7 +4,8 @@
 ghost use Rattle.std.specs.Prelude.{◌≡◌, ◌-◌, ◌≤◌};
 ghost use Rattle.operations.specs.PairRules.{Rule, recoverable as Recoverable};
 ghost use Rattle.operations.specs.PairRules.{Numbered, recoverable_rules, commuting_rules};
-ghost use Rattle.operations.specs.PairRules.{stack_recoverable as StackRecoverable, set_recoverable as SetRecoverable, table_recoverable as TableRecoverable};
+ghost use Rattle.operations.specs.PairRules.{stack_recoverable as StackRecoverable, set_recoverable as SetRecoverable};
+ghost use Rattle.operations.specs.PairRules.{table_recoverable as TableRecoverable};
 ghost use Rattle.pairs.specs.Pairs.{OneKind, code_of, code_at, ByKeys, allows_keys, pair_of, RowOf};
 ghost use Rattle.pairs.specs.Pairs.{RowsOf, Filled};
 

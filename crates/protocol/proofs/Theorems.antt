@@ -2,7 +2,8 @@
 -- operation is answered, told to wait, ordered behind another, finished, cancelled for a circle or committed exactly
 -- where document 000's recoverability and commit protocol (sections 4.2.1 and 4.3), as 01 and 02 fix them, says so; and
 -- what every call keeps.
-use Rattle.std.specs.Prelude.{ℕ, ◌+◌, ◌*◌, ◌%◌, ◌^◌, ◌<◌, ◌≤◌, ◌≡◌, refl, true, false, ◌↔◌, ◌⊎◌, List, [], ◌∷◌, ◌++◌, map, length, get_or, replicate, take, drop}
+use Rattle.std.specs.Prelude.{ℕ, ◌+◌, ◌*◌, ◌%◌, ◌^◌, ◌<◌, ◌≤◌, ◌≡◌, refl, true, false, ◌↔◌, ◌⊎◌, List, [], ◌∷◌, ◌++◌}
+use Rattle.std.specs.Prelude.{map, length, get_or, replicate, take, drop}
 use Rattle.std.proofs.Common.{sym, ap, ◌∙◌, subst, arith, length-set, get_or-set_same, get_or-set_other}
 use Rattle.std.proofs.Math.Path.{subst⁻¹}
 use Rattle.std.proofs.Math.Option.{some}
@@ -260,7 +261,8 @@ pub operate_one : (w : List ℕ) (t o number k v : ℕ)
 unfolding operate
 operate_one w t o number k v = refl
 
-module _ (w : List ℕ) (t : ℕ) (operations : List ℕ) (accepted : batch_reason base whether_sound w t operations ≡ 0) where
+module _ (w : List ℕ) (t : ℕ) (operations : List ℕ) (accepted : batch_reason base whether_sound w t operations
+    ≡ 0) where
   abbrev held : Store
   held = decode base w
 

@@ -1,6 +1,7 @@
 -- Document 01, "Calls" and "Reasons for saying no", and 02: each call, from every word of a book and any arguments to
 -- all that it leaves.
-use Rattle.std.specs.Prelude.{ℕ, zero, suc, ◌-◌, ◌*◌, ◌%◌, Bool, true, false, cond, not, ◌&&◌, ◌||◌, List, [], ◌∷◌, ◌++◌, map, eqb, ltb, leb, length, replicate, drop}
+use Rattle.std.specs.Prelude.{ℕ, zero, suc, ◌-◌, ◌*◌, ◌%◌, Bool, true, false, cond, not, ◌&&◌, ◌||◌, List, [], ◌∷◌}
+use Rattle.std.specs.Prelude.{◌++◌, map, eqb, ltb, leb, length, replicate, drop}
 use Rattle.std.proofs.Math.Bool.{decide}
 use Rattle.std.proofs.Math.Option.{Option, none, some}
 use Rattle.operations.specs.Operations.{Kind, Operation, Answer, stored, answer, next}
@@ -9,7 +10,8 @@ use Rattle.operations.specs.Log.{Entry, after}
 use Rattle.operations.specs.Operations.{adds}
 use Rattle.bitset.specs.Bitset.{including, union, size}
 use Rattle.store.specs.Store.{transaction_count, object_count, entry_limit, list_length}
-use Rattle.store.specs.Store.{Status, absent, active, pseudo_committed, Store, status_of, object_of, pseudo_committed_count}
+use Rattle.store.specs.Store.{Status, absent, active, pseudo_committed, Store, status_of, object_of}
+use Rattle.store.specs.Store.{pseudo_committed_count}
 use Rattle.store.specs.Store.{on_object}
 use Rattle.store.specs.Layout.{book_words, Format, encode, decode, read_kind, or_pop, joined, row_words}
 use Rattle.store.proofs.Decisions.{whether_ready, whether_on_cycle}
@@ -224,7 +226,8 @@ module _ (format : Format) where
   finish_active s t list =
       cond (decide (whether_on_cycle s t)) (concluded circle list (settled_all (ended t s)))
       (cond (decide (whether_ready s.log t)) (concluded committed list (committed_first t (settled_all (commit t s))))
-      (served (encode format (with_status t (pseudo_committed (pseudo_committed_count s)) s)) (outcome finished list [])))
+      (served (encode format (with_status t (pseudo_committed (pseudo_committed_count s)) s))
+      (outcome finished list [])))
 
   abbrev pub set_up_reason : List ℕ → List ℕ → ℕ
   set_up_reason w kinds = first ((1, wrong_length w) ∷ (3, bad_kinds kinds) ∷ [])
@@ -237,7 +240,8 @@ module _ (format : Format) where
     abbrev pub begin_reason : List ℕ → ℕ → ℕ
     begin_reason w t =
         first (
-        (1, wrong_length w) ∷ (4, unsound whether_sound w) ∷ (5, above_last t) ∷ (6, already_live (decode format w) t) ∷ []
+        (1, wrong_length w) ∷ (4, unsound whether_sound w) ∷ (5, above_last t) ∷ (6, already_live (decode format w) t)
+        ∷ []
         )
 
     unfoldable pub begin : List ℕ → ℕ → Served

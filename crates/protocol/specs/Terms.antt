@@ -1,5 +1,6 @@
 -- What the theorems speak of, besides the definitions of the calls.
-use Rattle.std.specs.Prelude.{ℕ, ◌+◌, ◌*◌, ◌%◌, ◌≤◌, ◌<◌, ◌≡◌, true, false, cond, List, [], ◌∷◌, ◌++◌, eqb, length, get_or, take}
+use Rattle.std.specs.Prelude.{ℕ, ◌+◌, ◌*◌, ◌%◌, ◌≤◌, ◌<◌, ◌≡◌, true, false, cond, List, [], ◌∷◌, ◌++◌, eqb, length}
+use Rattle.std.specs.Prelude.{get_or, take}
 use Rattle.std.proofs.Math.Option.{some}
 use Rattle.operations.specs.Operations.{Kind, Operation, Answer, All, kind_of, stored}
 use Rattle.operations.specs.PairRules.{recoverable, commutes}

@@ -1,4 +1,5 @@
-// The commit protocol: definitions of the calls and theorems about them, in specs/; and the types of replies.
+// The commit protocol: definitions of the calls and theorems about them, in specs/ and proofs/; and the types of
+// replies.
 #![tactic(auto)]
 
 use operations::Answer;

@@ -1,6 +1,8 @@
 -- Laws for reasons: the first that applies, and each test from what the code finds.
-use Rattle.std.specs.Prelude.{ℕ, zero, suc, ◌+◌, ◌*◌, ◌/◌, ◌≤◌, ◌<◌, ◌≡◌, refl, Bool, true, false, cond, not, ◌↔◌, List, [], ◌∷◌, ◌++◌, map, eqb, ltb, leb, length, get_or, take, drop}
-use Rattle.std.proofs.Common.{sym, ap, ◌∙◌, subst, ⊎_elim, not-suc-le-zero, add-one, arith, eq-eqb, ne_eqb, lt-ltb, le-ltb, le-leb}
+use Rattle.std.specs.Prelude.{ℕ, zero, suc, ◌+◌, ◌*◌, ◌/◌, ◌≤◌, ◌<◌, ◌≡◌, refl, Bool, true, false, cond, not, ◌↔◌, List}
+use Rattle.std.specs.Prelude.{[], ◌∷◌, ◌++◌, map, eqb, ltb, leb, length, get_or, take, drop}
+use Rattle.std.proofs.Common.{sym, ap, ◌∙◌, subst, ⊎_elim, not-suc-le-zero, add-one, arith, eq-eqb, ne_eqb, lt-ltb}
+use Rattle.std.proofs.Common.{le-ltb, le-leb}
 use Rattle.std.proofs.Math.Bool.{and-false}
 use Rattle.std.proofs.Math.Option.{Option, none, some}
 use Rattle.std.proofs.lemmas.Bool.{lt-leb}
@@ -27,11 +29,13 @@ use Rattle.protocol.proofs.Laws.Reasons.{none_applies, none_any, first_numbered,
 use Rattle.protocol.proofs.Laws.Reasons.{some_kind, is_sound, of_length}
 use Rattle.protocol.proofs.Laws.Batches.{log_limit}
 use Rattle.store.specs.Dependency.{Any}
-use Rattle.protocol.proofs.Laws.Lent.{no_operation, lent_at, lent_count, lent_at_lem, from_place, none_left, needing, needed_of}
+use Rattle.protocol.proofs.Laws.Lent.{no_operation, lent_at, lent_count, lent_at_lem, from_place, none_left, needing}
+use Rattle.protocol.proofs.Laws.Lent.{needed_of}
 use Rattle.protocol.proofs.Laws.Lent.{needed_one_more, run_one_more, used_all}
 use Rattle.protocol.specs.Calls.{LentOperation, operations_in, too_many, own_reasons, first, run, run_all, limits}
 use Rattle.protocol.specs.Calls.{batch_reason}
-use Rattle.protocol.specs.Calls.{wrong_length, some_above, bad_kinds, unsound, above_last, is_live, already_live, is_active}
+use Rattle.protocol.specs.Calls.{wrong_length, some_above, bad_kinds, unsound, above_last, is_live, already_live}
+use Rattle.protocol.specs.Calls.{is_active}
 use Rattle.protocol.specs.Calls.{not_active, is_none, without_kind, is_of, not_of_kind, log_full, no_room, request}
 use Rattle.refusals.specs.Reasons.{asker_reasons, row_limits}
 
@@ -94,7 +98,8 @@ module _ (number : ℕ) where
   above_all (some Set) l = after_last Set (omega arith)
   above_all (some Table) l = after_last Table l
 
-  of_kind_lem : (own kind : Kind) → OfKind own number → eqb (kind_number own) (kind_number kind) ≡ is_of (some kind) number
+  of_kind_lem : (own kind : Kind) → OfKind own number → eqb (kind_number own) (kind_number kind) ≡ is_of
+      (some kind) number
   of_kind_lem Stack Stack r = inside Stack r
   of_kind_lem Stack Set r = before_first Set (omega arith)
   of_kind_lem Stack Table r = before_first Table (omega arith)
@@ -222,7 +227,8 @@ module _ (w : List ℕ) (right : BookLong w) where
   past_length rest = passed 1 (of_length w right) rest
 
   module _ {sound : Bool} (said : (sound ≡ true) ↔ Sound base w) (holds : not sound ≡ false) where
-    pub past_soundness : {r later : ℕ} → r ≡ later → r ≡ cond (wrong_length w) 1 (cond (unsound whether_sound w) 4 later)
+    pub past_soundness : {r later : ℕ} → r ≡ later → r ≡ cond (wrong_length w) 1 (cond
+        (unsound whether_sound w) 4 later)
     past_soundness rest = past_length (passed 4 (soundness w said ∙ holds) rest)
 
     pub past_last : (t : ℕ) → t ≤ 63 → {r later : ℕ} → r ≡ later
@@ -303,7 +309,8 @@ module _ (operations : List ℕ) where
 
     pub own_none : (i : ℕ) → length operations / 4 ≤ i → OwnLeft i → 0 ≡ first (own_reasons (decode base w) qs)
     own_none i past left =
-        ap (λ (l : List LentOperation). first (own_reasons (decode base w) l)) (sym (none_left operations i past)) ∙ left
+        ap (λ (l : List LentOperation). first (own_reasons (decode base w) l)) (sym (none_left operations i past))
+        ∙ left
 
   -- ---- Rows that those before need
 

@@ -1,11 +1,13 @@
 // Reasons for saying no: for each call the number of the first that applies, 0 where none does.
 #![tactic(auto)]
 
-ghost use Rattle.std.specs.Prelude.{◌≡◌, true, cond, not, ◌||◌, List, [], ◌∷◌, ◌↔◌, ℕ, ◌*◌, ◌%◌, ◌≤◌, eqb, ltb, length, take};
+ghost use Rattle.std.specs.Prelude.{◌≡◌, true, cond, not, ◌||◌, List, [], ◌∷◌, ◌↔◌, ℕ, ◌*◌, ◌%◌, ◌≤◌, eqb, ltb, length};
+ghost use Rattle.std.specs.Prelude.{take};
 ghost use Rattle.store.specs.Layout.{base, decode, read_kind, Packed};
 ghost use Rattle.store.proofs.Decisions.{whether_sound};
 ghost use Rattle.store.specs.Soundness.{Sound};
-ghost use Rattle.protocol.specs.Calls.{lent_operation, operation_words, batch_limit, operations_in, some_above as SomeAbove, is_of as IsOf};
+ghost use Rattle.protocol.specs.Calls.{lent_operation, operation_words, batch_limit, operations_in};
+ghost use Rattle.protocol.specs.Calls.{some_above as SomeAbove, is_of as IsOf};
 ghost use Rattle.protocol.specs.Calls.{own_reasons, first, set_up_reason, begin_reason, batch_reason, operate_reason};
 ghost use Rattle.protocol.specs.Calls.{end_reason, contents_reason};
 ghost use Rattle.protocol.proofs.Laws.Reasons.{Silent};

@@ -23,7 +23,8 @@ left s = effect s.book (some s.outcome)
 
 module _ (w kinds operations : List ℕ) {asked r : code.Call} (is : asked ≡ r) {book : List ℕ} (told : Told)
     (filled : Filled told.batched) where
-  as_told : (said : Said) → told.said ≡ said → listed_in said ≤ 64 → BatchOf said (call_of r kinds operations) operations
+  as_told : (said : Said) → told.said ≡ said → listed_in said ≤ 64 → BatchOf said
+      (call_of r kinds operations) operations
       → effect book (said_of told said) ≡ effect_of (call_of r kinds operations) w
       → Served (call_of asked kinds operations) operations w book told
   as_told said says few whole done =

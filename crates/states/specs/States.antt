@@ -1,5 +1,6 @@
 -- The log's entries served in order: the rows that replay would hold, and what the code's arrays say of them.
-use Rattle.std.specs.Prelude.{ℕ, ◌+◌, ◌-◌, ◌*◌, ◌≤◌, ◌<◌, ◌≡◌, ◌↔◌, Bool, true, false, cond, ◌||◌, List, [], ◌∷◌, eqb, length, get_or, take}
+use Rattle.std.specs.Prelude.{ℕ, ◌+◌, ◌-◌, ◌*◌, ◌≤◌, ◌<◌, ◌≡◌, ◌↔◌, Bool, true, false, cond, ◌||◌, List, [], ◌∷◌, eqb}
+use Rattle.std.specs.Prelude.{length, get_or, take}
 use Rattle.std.proofs.Math.Option.{Option, some}
 use Rattle.operations.specs.Operations.{Kind, Stack, Set, Table, Row, Answer, answering, valued, push, kind_of}
 use Rattle.operations.specs.Operations.{stack_next}

@@ -1,5 +1,6 @@
 -- Document 01, "The book": a store as words and words as a store.
-use Rattle.std.specs.Prelude.{ℕ, suc, zero, ◌+◌, ◌-◌, ◌*◌, ◌≤◌, ◌<◌, ◌≡◌, cond, List, [], ◌∷◌, ◌++◌, map, length, get_or, replicate}
+use Rattle.std.specs.Prelude.{ℕ, suc, zero, ◌+◌, ◌-◌, ◌*◌, ◌≤◌, ◌<◌, ◌≡◌, cond, List, [], ◌∷◌, ◌++◌, map, length}
+use Rattle.std.specs.Prelude.{get_or, replicate}
 use Rattle.std.proofs.Math.Option.{Option, none, some}
 use Rattle.operations.specs.Operations.{kind_number, adds, row_limit}
 use Rattle.operations.specs.Operations.{Kind, Stack, Set, Table, Row, row, pop, Operation, on_stack, Answer, answering}

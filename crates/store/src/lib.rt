@@ -1,2 +1,2 @@
-// The store: definitions and theorems alone, in specs/.
+// The store: definitions and theorems alone, in specs/ and proofs/.
 #![tactic(auto)]

@@ -1,5 +1,6 @@
 -- Texts as lists of bytes: pieces between separators, and numbers in decimal (document 01, "Script program").
-use Rattle.std.specs.Prelude.{ℕ, zero, suc, ◌+◌, ◌*◌, ◌-◌, ◌/◌, ◌%◌, Bool, true, cond, ◌&&◌, List, [], ◌∷◌, ◌++◌, eqb, ltb, leb, length, take, drop}
+use Rattle.std.specs.Prelude.{ℕ, zero, suc, ◌+◌, ◌*◌, ◌-◌, ◌/◌, ◌%◌, Bool, true, cond, ◌&&◌, List, [], ◌∷◌, ◌++◌, eqb}
+use Rattle.std.specs.Prelude.{ltb, leb, length, take, drop}
 use Prim.Native.String.{String, len, char_at}
 use Prim.Native.Char.{code}
 use Rattle.std.proofs.Math.Option.{Option, none, some}
@@ -40,7 +41,8 @@ value_after n (b ∷ text) = value_after (10 * n + (b - 48)) text
 
 -- One to ten digits, leading zeros among them, that fit 32 bits.
 abbrev pub is_number : List ℕ → Bool
-is_number text = leb 1 (length text) && leb (length text) 10 && all_digits text && ltb (value_after 0 text) 4_294_967_296
+is_number text = leb 1 (length text) && leb (length text) 10 && all_digits text && ltb
+    (value_after 0 text) 4_294_967_296
 
 unfoldable pub number_in : List ℕ → Option ℕ
 number_in text = cond (is_number text) (some (value_after 0 text)) none

@@ -72,7 +72,8 @@ entry_operation_requires : tie.Need-entry_operation-logged-requires invariant_lo
 entry_operation_requires c κs = readable c.before.before.before
 
 -- An entry of the object, and its operation.
-abbrev in_loop : tie.After-entry_operation-logged invariant_loop decreases_loop → tie.In-loop-i invariant_loop decreases_loop
+abbrev in_loop : tie.After-entry_operation-logged invariant_loop decreases_loop → tie.In-loop-i invariant_loop
+    decreases_loop
 in_loop c = c.before.before.before.before
 
 own : (c : tie.After-entry_operation-logged invariant_loop decreases_loop) → let at_loop = (in_loop c).before in
@@ -127,13 +128,16 @@ loop_again c =
     λ requested request.
     ⊎_elim
     (λ w.
-    carry_own (record { packed = start.requires.0; inside = inside in_loop; words = w.entry_operation-logged.ensures }) start.args.object
-    (sym object ∙ w.if-on-object.true) requested state.rows state.count (state.invariant requested request) c.if-on-object.rows
+    carry_own (record { packed = start.requires.0; inside = inside in_loop; words = w.entry_operation-logged.ensures })
+    start.args.object
+    (sym object ∙ w.if-on-object.true) requested state.rows state.count (state.invariant requested request)
+    c.if-on-object.rows
     c.if-on-object.count (rw w.rows-is w.next_rows-rows.ensures) (w.count-is ∙ w.next_count-next.ensures))
     (⊎_elim
     (λ w.
     rw (w.rows-is, w.count-is)
-    (carry_out (record { packed = start.requires.0; inside = inside in_loop; words = w.entry_operation-logged.ensures }) start.args.object
+    (carry_out (record { packed = start.requires.0; inside = inside in_loop; words = w.entry_operation-logged.ensures })
+    start.args.object
     (sym object ∙ w.if-on-object.true) requested state.rows state.count (state.invariant requested request)
     start.args.operation request w.recoverable.result w.recoverable.ensures (ap not w.if-not-recoverable.false)))
     (λ w.

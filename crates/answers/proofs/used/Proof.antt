@@ -61,8 +61,13 @@ loop_again c =
     ⊎_elim
     (λ w.
     rw w.used-is
-    (count_own (record { packed = start.requires.0; inside = inside in_loop; words = w.entry_operation-operation.ensures }) start.args.object
-    (sym object ∙ w.if-wide-object.true) at_loop.loop-i.used w.rows_needed-used.result at_loop.loop-i.invariant w.rows_needed-used.ensures))
+    (count_own (record {
+      packed = start.requires.0;
+      inside = inside in_loop;
+      words = w.entry_operation-operation.ensures;
+    }) start.args.object
+    (sym object ∙ w.if-wide-object.true) at_loop.loop-i.used w.rows_needed-used.result at_loop.loop-i.invariant
+    w.rows_needed-used.ensures))
     (λ w.
     rw w.used-is
     (count_past book start.args.object at_loop.loop-i.i (inside in_loop) (λ e. w.if-wide-object.false (object ∙ e))

@@ -15,7 +15,8 @@ use Rattle.operations.proofs.Laws.Recoverability.{left_out_before}
 use Rattle.pairs.specs.Pairs.{OneKind, both, pair_of}
 use Rattle.replay.specs.Replay.{rows_of, next_named, answer_named, answer_by}
 use Rattle.store.specs.Store.{object_of, on_object}
-use Rattle.store.specs.Layout.{word, decode, entry_start, operation_at, entry_at, object_start, rows_at, additions, Packed}
+use Rattle.store.specs.Layout.{word, decode, entry_start, operation_at, entry_at, object_start, rows_at, additions}
+use Rattle.store.specs.Layout.{Packed}
 use Rattle.store.specs.Layout.{base}
 use Rattle.store.proofs.Laws.Entries.{entries_from, entries_own, entries_other, entries_end}
 use Rattle.store.specs.Soundness.{Room}
@@ -146,7 +147,8 @@ module _ (w : List ℕ) (o i : ℕ) (l : word w 0 ≤ i) where
     carry_counted = omega (arith, s.room)
 
     pub carry_end : (asked : Operation) → operation_of asked ≡ some requested
-        → answer_named asked (rows_of rows count) ≡ answer_named asked (after model.next (entries_from w o 0) (rows_at w o))
+        → answer_named asked (rows_of rows count) ≡ answer_named asked (after model.next (entries_from w o 0)
+        (rows_at w o))
     carry_end asked names =
         ap (λ q. answer_by q (rows_of rows count)) names
         ∙ ap (λ l. model.answer requested (after model.next l (rows_of rows count)))

@@ -128,7 +128,8 @@ append_requires c κs =
       (requested base (lent_at a.operations.now loop.i), joined.request_at-requested.ensures),
     )
 
-abbrev entered : tie.After-append invariant_loop decreases_loop → tie.Joined-object-carried invariant_loop decreases_loop
+abbrev entered : tie.After-append invariant_loop decreases_loop → tie.Joined-object-carried invariant_loop
+    decreases_loop
 entered c = c.before.before.before.before.before.before
 
 array_set_from_answers : tie.Need-bounds-answers-i invariant_loop decreases_loop
@@ -148,7 +149,8 @@ loop_again c =
     let copy = here joined in (
       omega (arith, in_loop.loop-i-test.true),
       entering_turn a.book.now a.transaction a.operations.now (begin in_loop).requires.0 loop.i loop.book
-          loop.answers loop.invariant.1 in_loop.loop-i-test.true _ stored joined.if-object-carried.rows joined.if-object-carried.count
+          loop.answers loop.invariant.1 in_loop.loop-i-test.true _ stored joined.if-object-carried.rows
+          joined.if-object-carried.count
           copy.0 (begin in_loop).requires.1 _ advanced.answered-answer.ensures _
           (put.append.ensures (requested base (lent_at a.operations.now loop.i)) stored),
       λ l. carried_of _ _ _ _ _ _ copy.1

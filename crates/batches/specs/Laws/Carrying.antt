@@ -12,7 +12,8 @@ use Rattle.operations.proofs.Laws.Objects.{object, valid_next}
 use Rattle.operations.proofs.Laws.Recoverability.{left_out_before}
 use Rattle.replay.specs.Replay.{rows_of, next_named, answer_named, next_by, answer_by}
 use Rattle.store.specs.Store.{Store, object_of, on_object}
-use Rattle.store.specs.Layout.{base, decode, word, entry_start, operation_at, entry_at, object_start, rows_at, additions}
+use Rattle.store.specs.Layout.{base, decode, word, entry_start, operation_at, entry_at, object_start, rows_at}
+use Rattle.store.specs.Layout.{additions}
 use Rattle.store.specs.Layout.{Packed}
 use Rattle.store.specs.Soundness.{Room, SoundStore}
 use Rattle.store.proofs.Laws.Entries.{entries_from, entries_own, entries_other, entries_end}

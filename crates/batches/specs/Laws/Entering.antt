@@ -1,9 +1,11 @@
 -- Requests that may be entered, and the operations of a batch one after the other.
-use Rattle.std.specs.Prelude.{ℕ, zero, suc, ◌+◌, ◌-◌, ◌/◌, ◌≤◌, ◌<◌, ◌≡◌, refl, Bool, true, false, ◌||◌, List, [], ◌∷◌, ◌++◌, map, length, get_or, set, take, drop, replicate}
+use Rattle.std.specs.Prelude.{ℕ, zero, suc, ◌+◌, ◌-◌, ◌/◌, ◌≤◌, ◌<◌, ◌≡◌, refl, Bool, true, false, ◌||◌, List, [], ◌∷◌}
+use Rattle.std.specs.Prelude.{◌++◌, map, length, get_or, set, take, drop, replicate}
 use Rattle.std.proofs.Common.{sym, ap, ap₂, ◌∙◌, subst, add-one, arith, length-append, take_all, length-take-le}
 use Rattle.std.proofs.Math.Option.{none, some, none-ne-some}
 use Rattle.std.proofs.Math.ListN.{get_or-eq_default}
-use Rattle.operations.specs.Operations.{Operation, Answer, answering, kind_of, stored, reduce_key, numbered as operations}
+use Rattle.operations.specs.Operations.{Operation, Answer, answering, kind_of, stored, reduce_key}
+use Rattle.operations.specs.Operations.{numbered as operations}
 use Rattle.operations.specs.declared.Operation as words
 use Rattle.operations.specs.declared.Answer as answers
 use Rattle.operations.specs.Stored.{answer_of}
@@ -31,7 +33,8 @@ use Rattle.protocol.specs.Terms.{OperationAccepted, EachAccepted, BatchAccepted}
 use Rattle.protocol.specs.ReplyOf.{filled}
 use Rattle.protocol.proofs.Laws.Ending.{entries_fit}
 use Rattle.protocol.proofs.Laws.Reasons.{request_reduced}
-use Rattle.protocol.proofs.Laws.Lent.{no_operation, lent_at, lent_count, lent_at_lem, from_place, none_left, run_one_more}
+use Rattle.protocol.proofs.Laws.Lent.{no_operation, lent_at, lent_count, lent_at_lem, from_place, none_left}
+use Rattle.protocol.proofs.Laws.Lent.{run_one_more}
 use Rattle.protocol.proofs.Laws.Lent.{answers_one_more}
 use Rattle.protocol.proofs.Laws.Batches.{barring, awaited_run, free_first, Kept, run_kept, run_all_log, answers_counted}
 use Rattle.protocol.proofs.Laws.Kept.{encoded_sound}
@@ -245,7 +248,8 @@ module _ (w : List ℕ) (t : ℕ) (l : List ℕ) (a : BatchAccepted base w t l) 
         room_here =
             carried_room (ran w t l i) t q e.kept.0 (accepted_here i within) operation stored rows count c
 
-        pub carried_on : (copy : List (List ℕ)) (many : ℕ) → rows_of copy many ≡ next_named operation (rows_of rows count)
+        pub carried_on : (copy : List (List ℕ)) (many : ℕ) → rows_of copy many ≡ next_named operation
+            (rows_of rows count)
             → many ≡ length (next_named operation (rows_of rows count))
             → Carried (ran w t l (i + 1)) t q.object copy many
         carried_on copy many holds sized =

@@ -36,11 +36,16 @@ module _ (bytes : List ℕ) (read : Reading) {s : Step}
     within is = subst (λ (p : Place). place_of p ≤ length bytes) is said.1
 
     pub says_record : {at : ℕ} → read.place ≡ Behind at → Says (next_record 0 1 0 at read.content)
-    says_record {at} is =
-        (subst (SaysNext bytes (next_record 0 1 0 at read.content)) (step_is is) (refl, refl, refl, refl, refl), within is)
+    says_record {at} is = (
+      subst (SaysNext bytes (next_record 0 1 0 at read.content)) (step_is is) (refl, refl, refl, refl, refl),
+      within is,
+    )
 
     pub says_end : read.place ≡ End → Says (next_record 0 0 0 0 read.content)
-    says_end is = (subst (SaysNext bytes (next_record 0 0 0 0 read.content)) (step_is is) (refl, refl, refl, refl), within is)
+    says_end is = (
+      subst (SaysNext bytes (next_record 0 0 0 0 read.content)) (step_is is) (refl, refl, refl, refl),
+      within is,
+    )
 
     pub says_bad : {cause : Cause} {at : ℕ} → read.place ≡ Bad cause at
         → (number : ℕ) → number ≡ cause_number (cause_of cause) → Says (next_record 13 0 number at read.content)

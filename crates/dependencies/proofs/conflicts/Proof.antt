@@ -18,13 +18,15 @@ use Rattle.dependencies.proofs.conflicts.Statement.{statement}
 use Rattle.dependencies.proofs.conflicts.Tie as tie
 
 abbrev invariant_loop : tie.invariant-loop-i
-invariant_loop book reps dependencies₀ count whole₀ same₀ alike₀ heads₀ links₀ unrecoverable₀ i₀ dependencies whole same alike
+invariant_loop book reps dependencies₀ count whole₀ same₀ alike₀ heads₀ links₀ unrecoverable₀ i₀ dependencies whole same
+    alike
     heads links unrecoverable i =
     (i ≤ word book 0) × (length dependencies ≡ 64) × Represents dependencies (BarsBelow commutes book i)
     × Holds unrecoverable (Unrecoverable book i) × Gathered book i whole same alike × Chained true book i heads links
 
 abbrev decreases_loop : tie.decreases-loop-i
-decreases_loop book reps dependencies₀ count whole₀ same₀ alike₀ heads₀ links₀ unrecoverable₀ i₀ dependencies whole same alike
+decreases_loop book reps dependencies₀ count whole₀ same₀ alike₀ heads₀ links₀ unrecoverable₀ i₀ dependencies whole same
+    alike
     heads links unrecoverable i =
     word book 0 - i
 

@@ -22,7 +22,8 @@ twin_below : (start : tie.Start) → start.args.twin < 256
 twin_below start = omega (arith, start.requires.0.0.entries, start.requires.0.1, start.requires.2.within)
 
 -- The rows have their columns, and keep them.
-object_columns : (c : tie.After-read-entry) → length (get_or (entered c).args.whole.now c.read-entry.result.object []) ≡ 6
+object_columns : (c : tie.After-read-entry) → length (get_or (entered c).args.whole.now c.read-entry.result.object [])
+    ≡ 6
 object_columns c = ((entered c).requires.3.on_object c.read-entry.result.object c.read-entry.ensures.within).columns
 
 key_columns : (start : tie.Start) → length (get_or start.args.same.now start.args.at []) ≡ 4

@@ -29,7 +29,8 @@ first c = ⊎_elim (λ e. sym (ap key_column e)) (λ e. sym (ap key_column e)) c
 middle : tie.Need-returns-in-1-2
 middle c =
     let others = c.in-1.in_default-own.rest in
-    middle_column _ c.in-1.if-number-lt4-own.false c.in-1.if-number-lt9-own.true (λ e. others.0.0.1 (inr e)) (λ e. others.0.1 (inl e))
+    middle_column _ c.in-1.if-number-lt4-own.false c.in-1.if-number-lt9-own.true (λ e. others.0.0.1 (inr e))
+    (λ e. others.0.1 (inl e))
     (λ e. others.1 (inl e))
 
 pub key_column_spec : {M : Type 1} → statement M

@@ -72,7 +72,12 @@ returns c =
     let at_loop = c.loop-at in
     let asked = c in
     let number = asked.args.number in
-    let e : at_loop.at ≡ width_of number = omega (arith, c.loop-at-test.false, asked.width-columns.ensures, at_loop.invariant.0) in
+    let e : at_loop.at ≡ width_of number = omega (
+      arith,
+      c.loop-at-test.false,
+      asked.width-columns.ensures,
+      at_loop.invariant.0,
+    ) in
     record { unrecoverables = rw e at at_loop.invariant.1; conflictings = rw e at at_loop.invariant.2 }
 
 pub picked_spec : {M : Type 1} → statement M

@@ -8,7 +8,8 @@ use Rattle.bitset.specs.Bitset.{has, Members, Holds}
 use Rattle.bitset.specs.Laws.{holds_same, holds_without}
 use Rattle.pairs.specs.Pairs.{first_of, column_of, width_of}
 use Rattle.store.specs.Layout.{word, operation_at}
-use Rattle.representatives.specs.Representatives.{entry_transaction, entry_object, entry_number, Readable, Representative}
+use Rattle.representatives.specs.Representatives.{entry_transaction, entry_object, entry_number, Readable}
+use Rattle.representatives.specs.Representatives.{Representative}
 use Rattle.dependencies.specs.Dependencies.{Bars, Barred, key_column, Picked, PickedBoth, EntryRead, OwnersRow}
 use Rattle.dependencies.specs.Dependencies.{ObjectRow, KeyRow, Gathered, Others}
 use Rattle.dependencies.specs.Laws.Numbers.{ranged, picked_of, picked_from}
@@ -81,7 +82,10 @@ module _ (w : List ℕ) (readable : Readable w) where
         picked_from (get_or whole m 0) (get_or same (key_column_of m) 0) others b (rule_of m) h
         (λ e on_object_lem.
         let within = ranged number (numbered w readable i l) in
-        let (j, k, (o, c, t)) = (at_column w readable i l whole row m (omega (arith, within.width)) b).0 on_object_lem in
+        let (j, k, (o, c, t)) = (at_column w readable i l whole row m (omega (
+          arith,
+          within.width,
+        )) b).0 on_object_lem in
         refused b j never other k o t (ap rule_of c ∙ e) refl)
         (λ e by_key.
         let (j, k, (((o, key), tells), c, t)) =
@@ -123,7 +127,8 @@ module _ (w : List ℕ) (readable : Readable w) where
           (
             m,
             inside,
-            picked_of (get_or whole m 0) (get_or same (key_column_of m) 0) others b (operation_at w i) (operation_at w j)
+            picked_of (get_or whole m 0) (get_or same (key_column_of m) 0) others b (operation_at w i)
+                (operation_at w j)
                 (rule_of m) (said ∙ f.fails)
                 ((at_column w readable i l whole row m (omega (arith, inside, within.width)) b).1 (j, n, (o, refl, t)))
                 (λ e key.

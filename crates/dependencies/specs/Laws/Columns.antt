@@ -95,7 +95,8 @@ module _ (rules : Kind → Rules) (all_told : Told rules) (kind : Kind) (i m : �
       let both = (and-eq-true_iff _ _).0 (rw e at at_pair.0) in
       (eqb-true _ _ both.0, eqb-true _ _ both.1)
 
-  pub agreeing_modifies : rule_at (rules kind) i m ≡ agreeing → (first_number kind + i ≡ 11) × (first_number kind + m ≡ 11)
+  pub agreeing_modifies : rule_at (rules kind) i m ≡ agreeing → (first_number kind + i ≡ 11) × (first_number kind + m
+      ≡ 11)
   agreeing_modifies e =
       let both = (and-eq-true_iff _ _).0 (rw e at at_pair.0) in
       (eqb-true _ _ both.0, eqb-true _ _ both.1)

@@ -1,6 +1,7 @@
 -- An entry's owner put into the rows.
 use Rattle.std.specs.Prelude.{ℕ, ◌+◌, ◌<◌, ◌≡◌, true, false, ◌&&◌, ◌↔◌, ◌⊎◌, List, [], eqb, get_or, set, length}
-use Rattle.std.proofs.Common.{sym, ap, subst, ◌∙◌, inl, inr, ⊎_elim, arith, length-set, get_or-set_same, get_or-set_other}
+use Rattle.std.proofs.Common.{sym, ap, subst, ◌∙◌, inl, inr, ⊎_elim, arith, length-set, get_or-set_same}
+use Rattle.std.proofs.Common.{get_or-set_other}
 use Rattle.operations.proofs.Laws.Cases
 use Rattle.bitset.specs.Bitset.{has, Members, In, Holds}
 use Rattle.bitset.specs.Laws.{holds_same, in_meet, in_single}
@@ -134,7 +135,8 @@ module _ (w : List ℕ) (i : ℕ) (whole same : List (List ℕ)) (alike : List �
               (λ (e : y ≡ o → ⊥).
               let other : On w y i → ⊥ = λ h. e (sym h ∙ sym read.of_object) in
               rw (twice_other whole o r r' [] y e)
-              (row_kept column_of (On w y) 5 (Pushes w y) (entry_key w) w 6 i (get_or whole y []) (g.on_object y l) other
+              (row_kept column_of (On w y) 5 (Pushes w y) (entry_key w) w 6 i (get_or whole y [])
+              (g.on_object y l) other
               (λ a. other a.0)));
           represented = λ j l first.
               Cases.same j p

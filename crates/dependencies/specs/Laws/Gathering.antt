@@ -16,7 +16,8 @@ module _ (w : List ℕ) where
   pub dependencies_none : (sets : List ℕ) → sets ≡ replicate 64 0 → Represents sets (BarsBelow commutes w 0)
   dependencies_none sets empty =
       subst (λ (l : List ℕ). Represents l (BarsBelow commutes w 0)) (sym empty)
-      (blank_row 64 (BarsBelow commutes w 0) (λ a b. some_none (λ i. (entry_transaction w i ≡ a) × Bars commutes w i b)))
+      (blank_row 64 (BarsBelow commutes w 0) (λ a b. some_none (λ i. (entry_transaction w i ≡ a)
+      × Bars commutes w i b)))
 
   pub unrecoverable_none : Holds 0 (Unrecoverable w 0)
   unrecoverable_none =

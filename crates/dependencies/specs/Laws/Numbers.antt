@@ -3,7 +3,8 @@ use Rattle.std.specs.Prelude.{ℕ, ◌+◌, ◌-◌, ◌≤◌, ◌≡◌, refl,
 use Rattle.std.proofs.Common.{ap, ◌∙◌, true≢false, arith, eqb-true}
 use Rattle.std.proofs.lemmas.Bool.{eqb-false, not-false}
 use Rattle.operations.specs.Operations.{Kind, Stack, Set, Table, kind_number, Operation, key_of, value_of}
-use Rattle.operations.specs.PairRules.{Rule, always, never, apart, equal, agreeing, Rules, allows, rule_at, first_number}
+use Rattle.operations.specs.PairRules.{Rule, always, never, apart, equal, agreeing, Rules, allows, rule_at}
+use Rattle.operations.specs.PairRules.{first_number}
 use Rattle.operations.specs.PairRules.{last_number, Numbered, kind_numbered}
 use Rattle.operations.proofs.Laws.Cases.{split}
 use Rattle.operations.proofs.Laws.Numbers.{within_kind}
@@ -80,7 +81,8 @@ module _ (rules : Kind → Rules) (number : ℕ) (whole same : List ℕ) (others
       holds_none (PickedTo 0) (λ b. some_none (λ m. has (picked_at rules number whole same others m) b ≡ true))
 
   pub picked_more : (m first alike code chosen u v : ℕ) → first ≡ first_of number
-      → alike ≡ get_or same (key_column (first + m)) 0 → code ≡ code_at (rules (kind_numbered number)) (column_of number) m
+      → alike ≡ get_or same (key_column (first + m)) 0 → code ≡ code_at (rules (kind_numbered number))
+      (column_of number) m
       → ((which : Rule) → code ≡ code_of which → chosen ≡ picked which (get_or whole m 0) alike others)
       → Holds u (PickedTo m) → Members v (λ b. has u b || has chosen b) → Holds v (PickedTo (m + 1))
   picked_more m first alike code chosen u v start found coded chose h joined =

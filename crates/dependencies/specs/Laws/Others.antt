@@ -57,7 +57,8 @@ module _ (w : List ℕ) (readable : Readable w) (i : ℕ) (l : i < word w 0) whe
 
     pushers : entry_number w i ≡ 1 → Holds (get_or row 0 0) (Owner (Pushes w o) w i)
     pushers f =
-        holds_same (Owned column_of (On w o) w i 0) (Owner (Pushes w o) w i) (get_or row 0 0) (at_column 0 (omega arith))
+        holds_same (Owned column_of (On w o) w i 0) (Owner (Pushes w o) w i) (get_or row 0 0) (at_column 0
+        (omega arith))
         (λ b. (
           λ (j, n, (on, c, t)).
               let m : j < word w 0 = omega arith in
@@ -114,7 +115,8 @@ module _ (w : List ℕ) (readable : Readable w) (i : ℕ) (l : i < word w 0) whe
   equal_modifiers : (q s : ℕ) → entry_number w i ≡ 11 → AlikeBy true w i q → Holds s (Owner (AlikeBy true w q) w i)
       → Holds s (Owner (λ j. Modifies w i j × (entry_value w j ≡ entry_value w i)) w i)
   equal_modifiers q s f like held =
-      holds_same (Owner (AlikeBy true w q) w i) (Owner (λ j. Modifies w i j × (entry_value w j ≡ entry_value w i)) w i) s
+      holds_same (Owner (AlikeBy true w q) w i) (Owner (λ j. Modifies w i j × (entry_value w j
+      ≡ entry_value w i)) w i) s
       held
       (λ b. (
         λ (j, n, (a, t)).

@@ -24,7 +24,8 @@ module _ (w : List ℕ) (readable : Readable w) where
 
     -- The rule for the two operations, by the words.
     pub rule_read : (rules : Kind → Rules) → rule_for rules (operation_at w i) (operation_at w j)
-        ≡ rule_at (rules (kind_numbered (entry_number w i))) (column_of (entry_number w i)) (column_of (entry_number w j))
+        ≡ rule_at (rules (kind_numbered (entry_number w i))) (column_of (entry_number w i)) (column_of
+        (entry_number w j))
     rule_read rules = rw (kind_read, number_read i l, (readable.stored i l).0, (readable.stored j m).0)
 
     pub column_below : column_of (entry_number w j) < width_of (entry_number w i)

@@ -1,6 +1,8 @@
 -- Some number below another, and rows of sets by the relations that tell their members.
-use Rattle.std.specs.Prelude.{ℕ, zero, suc, ◌+◌, ◌<◌, ◌≡◌, refl, ◌||◌, ◌↔◌, ◌⊎◌, List, eqb, get_or, set, length, replicate}
-use Rattle.std.proofs.Common.{sym, subst, ◌∙◌, inl, inr, ⊎_elim, arith, eqb-true, eq-eqb, length-set, get_or-set_same, get_or-set_other}
+use Rattle.std.specs.Prelude.{ℕ, zero, suc, ◌+◌, ◌<◌, ◌≡◌, refl, ◌||◌, ◌↔◌, ◌⊎◌, List, eqb, get_or, set, length}
+use Rattle.std.specs.Prelude.{replicate}
+use Rattle.std.proofs.Common.{sym, subst, ◌∙◌, inl, inr, ⊎_elim, arith, eqb-true, eq-eqb, length-set, get_or-set_same}
+use Rattle.std.proofs.Common.{get_or-set_other}
 use Rattle.operations.proofs.Laws.Cases.{same}
 use Rattle.bitset.specs.Bitset.{has, Members, In, Holds, Represents}
 use Rattle.bitset.specs.Laws.{holds_none, holds_same, holds_join}

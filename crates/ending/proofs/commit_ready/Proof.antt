@@ -18,12 +18,14 @@ invariant_loop book₀ edges₀ finished list₀ left₀ count₀ book edges lis
     Settling book₀ list₀ book list edges left count
 
 abbrev decreases_loop : tie.decreases-loop-finished
-decreases_loop book₀ edges₀ finished list₀ left₀ count₀ book edges list left count = pseudo_committed_count (decode base book)
+decreases_loop book₀ edges₀ finished list₀ left₀ count₀ book edges list left count = pseudo_committed_count
+    (decode base book)
 
 loop_holds : tie.Need-loop-finished-init invariant_loop decreases_loop
 loop_holds c = let pre = c.requires in settling_begun pre.0 pre.1
 
-abbrev at_loop : tie.After-lowest_ready-transaction invariant_loop decreases_loop → tie.At-loop-finished invariant_loop decreases_loop
+abbrev at_loop : tie.After-lowest_ready-transaction invariant_loop decreases_loop
+    → tie.At-loop-finished invariant_loop decreases_loop
 at_loop c = c.before
 
 lowest_ready_requires : tie.Need-lowest_ready-transaction-requires invariant_loop decreases_loop
@@ -41,7 +43,8 @@ returns : tie.Need-returns-then-transaction-eq-NOBODY invariant_loop decreases_l
 returns c =
     let loop = (at_loop c.before).loop-finished in
     settling_ended loop.invariant
-    (names_nobody _ (lowest_ready (decode base loop.book)) c.lowest_ready-transaction.ensures c.if-transaction-eq-NOBODY.true)
+    (names_nobody _ (lowest_ready (decode base loop.book)) c.lowest_ready-transaction.ensures
+    c.if-transaction-eq-NOBODY.true)
 
 -- The one that commits now.
 next : (c : tie.Else-transaction-eq-NOBODY invariant_loop decreases_loop)
@@ -61,7 +64,8 @@ forget_requires c κs =
     let turn = c.before.before.before.before.before in
     ((at_loop turn.before).loop-finished.invariant.book.whole, (next turn).1)
 
-abbrev turn : tie.After-without-left invariant_loop decreases_loop → tie.Else-transaction-eq-NOBODY invariant_loop decreases_loop
+abbrev turn : tie.After-without-left invariant_loop decreases_loop → tie.Else-transaction-eq-NOBODY invariant_loop
+    decreases_loop
 turn c = c.before.before.before.before.before.before.before
 
 inside : (c : tie.After-without-left invariant_loop decreases_loop)

@@ -9,7 +9,8 @@ use Rattle.ending.proofs.forget.Statement.{statement}
 use Rattle.ending.proofs.forget.Tie as tie
 
 abbrev invariant_loop : tie.invariant-loop-a
-invariant_loop edges₀ transaction a₀ edges a = (a ≤ 64) × (length edges ≡ 64) × ForgottenBelow edges₀ transaction a edges
+invariant_loop edges₀ transaction a₀ edges a = (a ≤ 64) × (length edges ≡ 64) × ForgottenBelow edges₀ transaction a
+    edges
 
 abbrev decreases_loop : tie.decreases-loop-a
 decreases_loop edges₀ transaction a₀ edges a = 64 - a

@@ -12,7 +12,8 @@ use Rattle.ending.proofs.lowest_ready.Statement.{statement}
 use Rattle.ending.proofs.lowest_ready.Tie as tie
 
 abbrev invariant_loop : tie.invariant-loop-left
-invariant_loop book edges finished lowest₀ rank₀ left₀ lowest rank left = LeastPassed (decode base book) left lowest rank
+invariant_loop book edges finished lowest₀ rank₀ left₀ lowest rank left = LeastPassed
+    (decode base book) left lowest rank
 
 abbrev decreases_loop : tie.decreases-loop-left
 decreases_loop book edges finished lowest₀ rank₀ left₀ lowest rank left = left
@@ -39,7 +40,8 @@ loop_again c =
     let start = at_loop in
     let loop = at_loop.loop-left in
     let book = start.args.book.now in
-    let tested = ready_tested start.args.edges.now (decode base book) next.lowest-transaction.result start.requires.edges in
+    let tested = ready_tested start.args.edges.now (decode base book) next.lowest-transaction.result
+    start.requires.edges in
     ⊎_elim
     (λ w.
     rw (w.lowest-is, w.rank-is)
@@ -51,7 +53,11 @@ loop_again c =
     (least_kept book loop.left loop.lowest loop.rank loop.invariant _ next.lowest-transaction.ensures.member _
     read.status_word-status.ensures _ c.without-left.ensures
     (λ lower ready.
-    ⊎_elim (λ v. denied (tested _ v.ready.ensures) v.if-ready.false ready) (λ v. omega (arith, lower, v.if-status-rank.false))
+    ⊎_elim (λ v. denied (tested _ v.ready.ensures) v.if-ready.false ready) (λ v. omega (
+      arith,
+      lower,
+      v.if-status-rank.false,
+    ))
     w.else-status-rank.branch-raw)))
     c.if-status-rank.branch-raw
 

@@ -1,5 +1,6 @@
 -- Transactions that end one after the other: the book with its dependencies, and the list of those that committed.
-use Rattle.std.specs.Prelude.{ℕ, suc, ◌+◌, ◌<◌, ◌≤◌, ◌≡◌, refl, not, ◌&&◌, ◌↔◌, List, [], ◌∷◌, ◌++◌, eqb, length, drop, set, get_or}
+use Rattle.std.specs.Prelude.{ℕ, suc, ◌+◌, ◌<◌, ◌≤◌, ◌≡◌, refl, not, ◌&&◌, ◌↔◌, List, [], ◌∷◌, ◌++◌, eqb, length, drop}
+use Rattle.std.specs.Prelude.{set, get_or}
 use Rattle.std.proofs.Common.{sym, ap, ◌∙◌, subst, append-nil, arith, length-append, length-set, drop-cons}
 use Rattle.std.proofs.Math.Option.{none, some}
 use Rattle.std.proofs.Math.Seq.{append_snoc, set-append_seam}

@@ -32,7 +32,8 @@ loop_again c =
           (λ w. rw (w.book-is, w.kept-is) (gathered_kept _ _ _ _ _ at_loop.loop-i.invariant.1 _ _ stored
           read.entry_transaction.ensures w.if-entry_transaction-transaction.true w.move_entry.ensures))
           (λ w. rw (w.book-is, w.kept-is)
-          (gathered_own _ _ _ _ _ at_loop.loop-i.invariant.1 _ read.entry_transaction.ensures w.if-entry_transaction-transaction.false))
+          (gathered_own _ _ _ _ _ at_loop.loop-i.invariant.1 _ read.entry_transaction.ensures
+          w.if-entry_transaction-transaction.false))
           c.if-entry_transaction-transaction.branch-raw,
     )
 

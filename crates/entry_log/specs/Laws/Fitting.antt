@@ -4,7 +4,8 @@ use Rattle.std.proofs.Common.{sym, ap, ◌∙◌, inl, inr, ⊎_elim, arith, eqb
 use Rattle.std.proofs.Math.Option.{some, none-ne-some}
 use Rattle.operations.proofs.Laws.Cases.{yes, no}
 use Rattle.bitset.specs.Bitset.{has, Holds}
-use Rattle.operations.specs.Operations.{Kind, kind_number, Operation, on_stack, on_set, on_table, kind_of, key_of, reduce_key}
+use Rattle.operations.specs.Operations.{Kind, kind_number, Operation, on_stack, on_set, on_table, kind_of, key_of}
+use Rattle.operations.specs.Operations.{reduce_key}
 use Rattle.operations.specs.Operations.{StoredKey}
 use Rattle.operations.specs.PairRules.{kind_numbered}
 use Rattle.operations.proofs.Laws.Numbers.{kind_numbered_lem}

@@ -70,7 +70,9 @@ says_circle : tie.Need-returns-then-meet-ne0
 says_circle c =
     let abort = c in
     let met = abort in
-    circle (accepted (past met.before.before.before.before.before.before.before.before.before)) ((on_circle met.before.before.before.before.before.before.before.before.before).0 met.if-meet-ne0.true) abort.abort-count.ensures
+    circle (accepted (past met.before.before.before.before.before.before.before.before.before))
+    ((on_circle met.before.before.before.before.before.before.before.before.before).0 met.if-meet-ne0.true)
+    abort.abort-count.ensures
 
 -- ---- They stay apart
 
@@ -90,7 +92,8 @@ commit_active_requires : tie.Need-commit_active-count-requires
 commit_active_requires c κs =
     let free = c in
     let e = past (apart free.before.before.before.before).before in
-    may_commit (accepted e) (examined e).examined-examined.ensures ((ready free.before.before.before.before).0 free.if-ready.true)
+    may_commit (accepted e) (examined e).examined-examined.ensures ((ready free.before.before.before.before).0
+    free.if-ready.true)
 
 committed_fits : tie.Need-overflow_cast-result-then-ready
 committed_fits c =
@@ -103,7 +106,8 @@ says_committed c =
     let commit = c in
     let free = commit in
     let else = apart free.before.before.before.before.before.before.before.before.before in
-    committed (accepted (past else.before)) (off_circle else) ((ready free.before.before.before.before.before.before.before.before.before).0 free.if-ready.true)
+    committed (accepted (past else.before)) (off_circle else) ((ready
+    free.before.before.before.before.before.before.before.before.before).0 free.if-ready.true)
     commit.commit_active-count.ensures
 
 -- ---- It depends on others

@@ -20,7 +20,8 @@ loop_holds c = walk_begun _ _
 returns : tie.Need-returns-then-ready invariant_loop decreases_loop
 returns c =
     no refl
-    (walk_stopped _ _ _ _ c.before.before.before.before.loop-remaining.invariant c.before.before.lowest-transaction.ensures.member
+    (walk_stopped _ _ _ _ c.before.before.before.before.loop-remaining.invariant
+    c.before.before.lowest-transaction.ensures.member
     (λ on. c.before.ready.ensures.0 c.if-ready.true on.0 on.1))
 
 loop_less : tie.Need-loop-remaining-smaller invariant_loop decreases_loop

@@ -13,7 +13,8 @@ invariant_loop edges finished transaction own others found₀ found = Gathering 
 abbrev decreases_loop : tie.decreases-loop-found
 decreases_loop edges finished transaction own others found₀ found = 2 ^ 64 - found
 
-abbrev at_loop : tie.After-near_successors-more invariant_loop decreases_loop → tie.At-loop-found invariant_loop decreases_loop
+abbrev at_loop : tie.After-near_successors-more invariant_loop decreases_loop → tie.At-loop-found invariant_loop
+    decreases_loop
 at_loop c = c.before.before
 
 turn : (c : tie.After-near_successors-more invariant_loop decreases_loop)
@@ -33,7 +34,11 @@ returns c =
     (turn near).ended c.if-more-found.true _ (at_loop near).without-others.ensures
 
 loop_less : tie.Need-loop-found-smaller invariant_loop decreases_loop
-loop_less c = let near = c.before in omega (arith, (turn near).grows c.if-more-found.false, near.near_successors-more.type_inv)
+loop_less c = let near = c.before in omega (
+  arith,
+  (turn near).grows c.if-more-found.false,
+  near.near_successors-more.type_inv,
+)
 
 loop_again : tie.Need-loop-found-preserved invariant_loop decreases_loop
 loop_again c = (turn c.before).again

@@ -92,7 +92,8 @@ module _ (Edge : ℕ → ℕ → Type 0) (others t : ℕ) where
         ended b = (
           λ m. let (o, (k, w)) = (all_gathered b).0 m in
               let (f, other) = (in_rest others finished t without b).0 o in
-              let within : (c : ℕ) → In others c → In finished c = λ c q. ((in_rest others finished t without c).0 q).0 in
+              let within : (c : ℕ) → In others c → In finished c = λ c q. ((in_rest others finished t without c).0 q).0
+              in
               (other, f, (k, widened Edge (In others) (In finished) within k t b w)),
           λ (p : Successor Edge (In finished) t b).
               let (other, f, (k, w)) = p in

@@ -22,7 +22,8 @@ module _ (sets : List ℕ) (set : ℕ) where
   abbrev pub Depending : ℕ → ℕ → Type 0
   Depending a b = (b ≡ a) × ((c : ℕ) × In set c × EdgeIn sets a c)
 
-  module _ (next found on both : ℕ) (e : on ≡ get_or sets next 0) (meet : Members both (λ h. has on h && has set h)) where
+  module _ (next found on both : ℕ) (e : on ≡ get_or sets next 0) (meet : Members both (λ h. has on h
+      && has set h)) where
     pub depends_on_one : (own more : ℕ) → (both ≡ 0 → ⊥) → Members own (λ h. eqb h next)
         → Members more (λ h. has found h || has own h)
         → Holds more (λ b. In found b ⊎ Depending next b)

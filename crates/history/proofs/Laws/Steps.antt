@@ -1,5 +1,6 @@
 -- Every call keeps history and book linked.
-use Rattle.std.specs.Prelude.{ℕ, zero, suc, ◌≤◌, ◌<◌, ◌≡◌, refl, Bool, true, false, cond, ◌↔◌, ◌⊎◌, List, [], ◌∷◌, ◌++◌, eqb, length, take}
+use Rattle.std.specs.Prelude.{ℕ, zero, suc, ◌≤◌, ◌<◌, ◌≡◌, refl, Bool, true, false, cond, ◌↔◌, ◌⊎◌, List, [], ◌∷◌, ◌++◌}
+use Rattle.std.specs.Prelude.{eqb, length, take}
 use Rattle.std.proofs.Common.{sym, ap, ◌∙◌, subst, inl, inr, ⊎_elim, arith}
 use Rattle.std.proofs.lemmas.Bool.{eqb-false}
 use Rattle.std.proofs.Math.ListN.{get_or-map}
@@ -219,7 +220,8 @@ module _ (kinds : List ℕ) (h : History) (w : List ℕ) (f : InStep kinds h w) 
   -- Of a call that is a batch of one or of several, where an answer puts their operations last.
   batch_links : (call : Call) (t : ℕ) (operations : List ℕ)
       → ((given : List Answer)
-      → entered reduce_key call given h ≡ put_last (answered_operations reduce_key t (operations_in operations) given) h)
+      → entered reduce_key call given h ≡ put_last (answered_operations reduce_key t
+      (operations_in operations) given) h)
       → reason_of (batch t operations) w ≡ 0 → Links call (desk (batch t operations) w)
   batch_links call t operations enters e =
       ⊎_elim (λ a. rw (a.1, enters a.0, (batch_replayed w t operations e a.0 a.1).1)
@@ -283,7 +285,8 @@ calls_follow : (kinds : List ℕ) (h : History) (calls : List Call) (w : List �
     → InStep kinds (noted_all reduce_key (trace desk calls w) h) (book_after desk calls w)
 calls_follow kinds h [] w f refusedSetUps = f
 calls_follow kinds h (call ∷ calls) w f refusedSetUps =
-    calls_follow kinds (noted reduce_key call (desk call w).outcome.reply (desk call w).outcome.list h) calls (desk call w).book
+    calls_follow kinds (noted reduce_key call (desk call w).outcome.reply (desk call w).outcome.list h) calls
+    (desk call w).book
     (call_follows kinds h call w f refusedSetUps.0) refusedSetUps.1
 
 pub history_follows : (w kinds : List ℕ) → (desk (set_up kinds) w).outcome.reply ≡ ok → (calls : List Call)

@@ -1,6 +1,8 @@
 -- Numbers in groups: their bytes and how many they are, that what is read was written, and that it is read back.
-use Rattle.std.specs.Prelude.{ℕ, zero, suc, ◌+◌, ◌*◌, ◌-◌, ◌/◌, ◌%◌, ◌^◌, ◌≤◌, ◌<◌, ◌≡◌, refl, true, false, List, [], ◌∷◌, ◌++◌, eqb, ltb, length}
-use Rattle.std.proofs.Common.{sym, ap, ◌∙◌, append_assoc, div-lt_iff_lt-mul, pow-suc, arith, lt-ltb, le-ltb, ltb-true, ltb-false, ne_eqb}
+use Rattle.std.specs.Prelude.{ℕ, zero, suc, ◌+◌, ◌*◌, ◌-◌, ◌/◌, ◌%◌, ◌^◌, ◌≤◌, ◌<◌, ◌≡◌, refl, true, false, List, []}
+use Rattle.std.specs.Prelude.{◌∷◌, ◌++◌, eqb, ltb, length}
+use Rattle.std.proofs.Common.{sym, ap, ◌∙◌, append_assoc, div-lt_iff_lt-mul, pow-suc, arith, lt-ltb, le-ltb, ltb-true}
+use Rattle.std.proofs.Common.{ltb-false, ne_eqb}
 use Rattle.std.proofs.Math.Bool.{and-eq-true_iff}
 use Rattle.std.proofs.Math.Nat.{one-le-pow}
 use Rattle.std.proofs.lemmas.Bool.{eqb-false}
@@ -131,7 +133,8 @@ pub record NumberRead (bytes : List ℕ) (n : ℕ) (rest : List ℕ) : Type 0 wh
   pub fits : n < 4_294_967_296
   pub are : bytes ≡ groups n ++ rest
 
-number_from_lem : (bytes : List ℕ) (r : Read ℕ) → Found (Said 5 bytes) r → Found (NumberRead bytes) (number_from bytes r)
+number_from_lem : (bytes : List ℕ) (r : Read ℕ) → Found (Said 5 bytes) r → Found (NumberRead bytes)
+    (number_from bytes r)
 unfolding groups
 number_from_lem bytes (bad cause left) said = tt
 number_from_lem bytes (found n rest) said =
@@ -151,7 +154,8 @@ higher_read n rest large =
     let whole : 128 + n % 128 - 128 + 128 * (n / 128) ≡ n = omega arith in
     rw (some, whole)
 
-value_back : (k n : ℕ) (rest : List ℕ) → n < 128 ^ suc k → value (suc k) (groups_within (suc k) n ++ rest) ≡ found n rest
+value_back : (k n : ℕ) (rest : List ℕ) → n < 128 ^ suc k → value (suc k) (groups_within (suc k) n ++ rest)
+    ≡ found n rest
 value_back zero n rest few = rw (within_one 0 n few, lt-ltb n 128 few)
 value_back (suc k) n rest few =
     split (ltb n 128) (λ e. rw (within_one (suc k) n (ltb-true n 128 e), e))

@@ -1,6 +1,8 @@
 -- What is written is read back: numbers, lists, owners, arguments, replies and so records.
-use Rattle.std.specs.Prelude.{ℕ, suc, ◌+◌, ◌*◌, ◌-◌, ◌/◌, ◌%◌, ◌≤◌, ◌<◌, ◌≡◌, refl, true, false, ◌&&◌, List, [], ◌∷◌, ◌++◌, eqb, ltb, leb, length}
-use Rattle.std.proofs.Common.{sym, ap, ◌∙◌, true≢false, append_assoc, arith, ltb-true, leb-true, eqb-true, le-leb, ne_eqb}
+use Rattle.std.specs.Prelude.{ℕ, suc, ◌+◌, ◌*◌, ◌-◌, ◌/◌, ◌%◌, ◌≤◌, ◌<◌, ◌≡◌, refl, true, false, ◌&&◌, List, [], ◌∷◌}
+use Rattle.std.specs.Prelude.{◌++◌, eqb, ltb, leb, length}
+use Rattle.std.proofs.Common.{sym, ap, ◌∙◌, true≢false, append_assoc, arith, ltb-true, leb-true, eqb-true, le-leb}
+use Rattle.std.proofs.Common.{ne_eqb}
 use Rattle.std.proofs.Math.Bool.{and-eq-true_iff}
 use Rattle.std.proofs.Math.Option.{Option, none, some}
 use Rattle.std.proofs.lemmas.Bool.{not-true}
@@ -135,7 +137,8 @@ ended_back operations replyCode list rest two few e =
     let not_answer : eqb replyCode 1 ≡ false = ne_eqb replyCode 1 (λ (z : replyCode ≡ 1). omega arith) in
     rw (not-wait, not_answer, list_back list rest few e)
 
-reply_back : (letter : ℕ) (arguments : List ℕ) (reply : Reply) (rest : List ℕ) → reply_fits letter arguments reply ≡ true
+reply_back : (letter : ℕ) (arguments : List ℕ) (reply : Reply) (rest : List ℕ) → reply_fits letter arguments reply
+    ≡ true
     → narrow (reply_numbers reply) ≡ true
     → reply_in letter (operations_of letter arguments) (grouped (reply_numbers reply) ++ rest) ≡ found reply rest
 reply_back letter arguments nothing rest fit e = rw (not-true (has_reply letter) fit)

@@ -22,7 +22,8 @@ pub returns-then-group-eq0 : goal.returns-then-group-eq0
 returns-then-group-eq0 c =
     let loop = c.loop-i in
     long_form_lem c.args.bytes.now c.args.at loop.value loop.scale loop.i loop.invariant
-    c.loop-i-test.true (get_or c.args.bytes.now (c.args.at + c.loop-i.i) 0) c.if-bytes-place.false refl c.if-group-lt-GROUP.true
+    c.loop-i-test.true (get_or c.args.bytes.now (c.args.at + c.loop-i.i) 0) c.if-bytes-place.false refl
+    c.if-group-lt-GROUP.true
     c.if-group-eq0.true
 
 pub returns-then-number-gt-LARGEST : goal.returns-then-number-gt-LARGEST
@@ -43,7 +44,8 @@ pub loop-i-preserved : goal.loop-i-preserved
 loop-i-preserved c =
     let loop = c.loop-i in
     grouping_goes_on c.args.bytes.now c.args.at loop.value loop.scale loop.i loop.invariant
-    c.loop-i-test.true (get_or c.args.bytes.now (c.args.at + c.loop-i.i) 0) c.if-bytes-place.false refl c.if-group-lt-GROUP.false
+    c.loop-i-test.true (get_or c.args.bytes.now (c.args.at + c.loop-i.i) 0) c.if-bytes-place.false refl
+    c.if-group-lt-GROUP.false
     (omega (arith, c.type_inv.bytes (c.args.at + c.loop-i.i)))
 
 pub returns : goal.returns
@@ -53,16 +55,44 @@ returns c =
     c.loop-i-test.false
 
 pub overflow_mul-number : goal.overflow_mul-number
-overflow_mul-number c = omega (arith, within_words c.args.bytes.now c.args.at c.loop-i.value c.loop-i.scale c.loop-i.i c.loop-i.invariant c.loop-i-test.true (get_or c.args.bytes.now (c.args.at + c.loop-i.i) 0) c.if-group-lt-GROUP.true)
+overflow_mul-number c = omega (
+  arith,
+  within_words c.args.bytes.now c.args.at c.loop-i.value c.loop-i.scale c.loop-i.i
+      c.loop-i.invariant c.loop-i-test.true (get_or c.args.bytes.now (c.args.at + c.loop-i.i) 0)
+      c.if-group-lt-GROUP.true,
+)
 
 pub overflow_add-number : goal.overflow_add-number
-overflow_add-number c = omega (arith, within_words c.args.bytes.now c.args.at c.loop-i.value c.loop-i.scale c.loop-i.i c.loop-i.invariant c.loop-i-test.true (get_or c.args.bytes.now (c.args.at + c.loop-i.i) 0) c.if-group-lt-GROUP.true)
+overflow_add-number c = omega (
+  arith,
+  within_words c.args.bytes.now c.args.at c.loop-i.value c.loop-i.scale c.loop-i.i
+      c.loop-i.invariant c.loop-i-test.true (get_or c.args.bytes.now (c.args.at + c.loop-i.i) 0)
+      c.if-group-lt-GROUP.true,
+)
 
 pub overflow_mul-value : goal.overflow_mul-value
-overflow_mul-value c = omega (arith, within_words c.args.bytes.now c.args.at c.loop-i.value c.loop-i.scale c.loop-i.i c.loop-i.invariant c.loop-i-test.true (get_or c.args.bytes.now (c.args.at + c.loop-i.i) 0 - 128) (omega (arith, c.type_inv.bytes (c.args.at + c.loop-i.i))))
+overflow_mul-value c = omega (
+  arith,
+  within_words c.args.bytes.now c.args.at c.loop-i.value c.loop-i.scale c.loop-i.i
+      c.loop-i.invariant c.loop-i-test.true (get_or c.args.bytes.now (c.args.at + c.loop-i.i) 0 - 128) (omega (
+        arith,
+        c.type_inv.bytes (c.args.at + c.loop-i.i),
+      )),
+)
 
 pub overflow_add-value : goal.overflow_add-value
-overflow_add-value c = omega (arith, within_words c.args.bytes.now c.args.at c.loop-i.value c.loop-i.scale c.loop-i.i c.loop-i.invariant c.loop-i-test.true (get_or c.args.bytes.now (c.args.at + c.loop-i.i) 0 - 128) (omega (arith, c.type_inv.bytes (c.args.at + c.loop-i.i))))
+overflow_add-value c = omega (
+  arith,
+  within_words c.args.bytes.now c.args.at c.loop-i.value c.loop-i.scale c.loop-i.i
+      c.loop-i.invariant c.loop-i-test.true (get_or c.args.bytes.now (c.args.at + c.loop-i.i) 0 - 128) (omega (
+        arith,
+        c.type_inv.bytes (c.args.at + c.loop-i.i),
+      )),
+)
 
 pub overflow_mul-scale : goal.overflow_mul-scale
-overflow_mul-scale c = omega (arith, within_words c.args.bytes.now c.args.at c.loop-i.value c.loop-i.scale c.loop-i.i c.loop-i.invariant c.loop-i-test.true 1 (omega arith))
+overflow_mul-scale c = omega (
+  arith,
+  within_words c.args.bytes.now c.args.at c.loop-i.value c.loop-i.scale c.loop-i.i
+      c.loop-i.invariant c.loop-i-test.true 1 (omega arith),
+)

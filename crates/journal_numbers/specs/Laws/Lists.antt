@@ -1,5 +1,6 @@
 -- Numbers read one by one into an array: those that are there, before those that are left, are the whole.
-use Rattle.std.specs.Prelude.{ℕ, zero, suc, ◌+◌, ◌-◌, ◌≤◌, ◌<◌, ◌≡◌, refl, true, false, List, [], ◌∷◌, ◌++◌, ltb, length, drop, set}
+use Rattle.std.specs.Prelude.{ℕ, zero, suc, ◌+◌, ◌-◌, ◌≤◌, ◌<◌, ◌≡◌, refl, true, false, List, [], ◌∷◌, ◌++◌, ltb}
+use Rattle.std.specs.Prelude.{length, drop, set}
 use Rattle.std.proofs.Common.{arith, sym, ap, ◌∙◌, append-nil, ltb-true, length-set}
 use Rattle.std.proofs.Math.Seq.{append_snoc}
 use Rattle.operations.proofs.Laws.Cases.{split}

@@ -1,6 +1,8 @@
 -- A number, read group by group.
-use Rattle.std.specs.Prelude.{ℕ, suc, ◌+◌, ◌*◌, ◌-◌, ◌^◌, ◌≤◌, ◌<◌, ◌≡◌, refl, true, false, cond, List, [], ◌∷◌, eqb, length, get_or}
-use Rattle.std.proofs.Common.{mul-add, mul_assoc, mul-le-mul, mul-le-mul_left, pow-suc, add-one, arith, sym, ◌∙◌, eq-eqb, ne_eqb, lt-ltb, le-ltb, drop_of_length-le, drop-cons}
+use Rattle.std.specs.Prelude.{ℕ, suc, ◌+◌, ◌*◌, ◌-◌, ◌^◌, ◌≤◌, ◌<◌, ◌≡◌, refl, true, false, cond, List, [], ◌∷◌, eqb}
+use Rattle.std.specs.Prelude.{length, get_or}
+use Rattle.std.proofs.Common.{mul-add, mul_assoc, mul-le-mul, mul-le-mul_left, pow-suc, add-one, arith, sym, ◌∙◌}
+use Rattle.std.proofs.Common.{eq-eqb, ne_eqb, lt-ltb, le-ltb, drop_of_length-le, drop-cons}
 use Rattle.std.proofs.Math.Nat.{pow-le-pow_right}
 use Rattle.std.proofs.Math.Path.{ap}
 use Rattle.std.proofs.lemmas.Bool.{eqb-false}

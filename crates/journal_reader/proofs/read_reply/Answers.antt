@@ -28,6 +28,7 @@ read_listed-requires c =
 
 pub returns : goal.returns
 returns c arguments =
-    reply_read c.args.letter c.args.operations _ arguments (sym c.has_reply.ensures ∙ c.if-not-has_reply.false) c.requires.2
+    reply_read c.args.letter c.args.operations _ arguments (sym c.has_reply.ensures
+    ∙ c.if-not-has_reply.false) c.requires.2
     c.read_listed.result (known c.in-Is.is c.read_code-read.ensures)
     c.read_listed.ensures

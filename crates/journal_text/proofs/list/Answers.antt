@@ -34,14 +34,30 @@ returns-then-out-written-lt-MOST_LINE c =
     c.if-out-written-lt-MOST_LINE.true
 
 pub put_record-written-requires : goal.put_record-written-requires
-put_record-written-requires c = ((omega (arith, c.if-out-written-lt-MOST_LINE.false, kept c.loop-cause.invariant, c.loop-cause.invariant.fits)), (record_stands _ _ c.next-reading.result c.next-reading.ensures.0 c.next-reading.ensures.1 (λ i. omega (arith, c.type_inv.bytes i)) c.in-Behind.is).fit)
+put_record-written-requires c = (
+  (omega (
+    arith,
+    c.if-out-written-lt-MOST_LINE.false,
+    kept c.loop-cause.invariant,
+    c.loop-cause.invariant.fits,
+  )),
+  (record_stands _ _ c.next-reading.result c.next-reading.ensures.0
+      c.next-reading.ensures.1 (λ i. omega (arith, c.type_inv.bytes i)) c.in-Behind.is).fit,
+)
 
 pub loop-cause-smaller : goal.loop-cause-smaller
 loop-cause-smaller c =
-    let stood = (record_stands _ _ c.next-reading.result c.next-reading.ensures.0 c.next-reading.ensures.1 (λ i. omega (arith, c.type_inv.bytes i)) c.in-Behind.is) in
+    let stood = (record_stands _ _ c.next-reading.result c.next-reading.ensures.0 c.next-reading.ensures.1 (λ i. omega
+    (arith, c.type_inv.bytes i)) c.in-Behind.is) in
     omega (arith, stood.onward, stood.within)
 
 pub loop-cause-preserved : goal.loop-cause-preserved
 loop-cause-preserved c =
-    printing_goes_on c.loop-cause.invariant (record_stands _ _ c.next-reading.result c.next-reading.ensures.0 c.next-reading.ensures.1 (λ i. omega (arith, c.type_inv.bytes i)) c.in-Behind.is) (omega (arith, c.if-out-written-lt-MOST_LINE.false, kept c.loop-cause.invariant, c.loop-cause.invariant.fits))
+    printing_goes_on c.loop-cause.invariant (record_stands _ _ c.next-reading.result c.next-reading.ensures.0
+    c.next-reading.ensures.1 (λ i. omega (arith, c.type_inv.bytes i)) c.in-Behind.is) (omega (
+      arith,
+      c.if-out-written-lt-MOST_LINE.false,
+      kept c.loop-cause.invariant,
+      c.loop-cause.invariant.fits,
+    ))
     c.put_record-written.ensures.0 c.put_record-written.ensures.1

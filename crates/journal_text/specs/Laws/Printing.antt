@@ -1,6 +1,7 @@
 -- Records read one by one, and their lines put one after the other.
 use Rattle.std.specs.Prelude.{ℕ, ◌+◌, ◌-◌, ◌≤◌, ◌<◌, ◌≡◌, true, List, [], ◌∷◌, ◌++◌, length, get_or, drop}
-use Rattle.std.proofs.Common.{arith, sym, ap, subst, ◌∙◌, append_assoc, append-nil, length-append, length-drop, get_or-drop}
+use Rattle.std.proofs.Common.{arith, sym, ap, subst, ◌∙◌, append_assoc, append-nil, length-append, length-drop}
+use Rattle.std.proofs.Common.{get_or-drop}
 use Rattle.store.proofs.Laws.Lists.{tabulate_get_d, all_of}
 use Rattle.text.specs.Fields.{Put}
 use Rattle.text.proofs.Laws.Putting.{nothing, then, length_put}
@@ -52,7 +53,8 @@ found_of : (x : Read Record) {r : Record} {rest : List ℕ} → step_of x ≡ ne
 found_of (found s left) e = cc
 found_of (bad cause left) e = absurd (let z : ◌≡◌ {A = ℕ} 0 1 = cc in omega arith)
 
-record_of_lem : (bytes : List ℕ) {r : Record} {rest : List ℕ} → step bytes ≡ next r rest → record_in bytes ≡ found r rest
+record_of_lem : (bytes : List ℕ) {r : Record} {rest : List ℕ} → step bytes ≡ next r rest → record_in bytes
+    ≡ found r rest
 record_of_lem [] e = absurd (let z : ◌≡◌ {A = ℕ} 0 1 = cc in omega arith)
 record_of_lem (b ∷ bytes) e = found_of (record_in (b ∷ bytes)) e
 

@@ -22,23 +22,33 @@ returns-then-operations-gt-BATCH c arguments numbers owners =
 pub returns-then-not-has_reply : goal.returns-then-not-has_reply
 returns-then-not-has_reply c arguments numbers owners =
     let a = c.args in
-    without_reply a.letter a.operations a.code a.listed arguments numbers owners (λ e. c.if-arguments_of-eq0.false (c.arguments_of.ensures ∙ e)) (λ e. ⊎_elim (λ w. le-ltb 16 c.args.operations w.if-operations-gt-BATCH.false) (λ w. absurd (w.if-letter-eq-BATCH.false e)) c.else-letter-eq-BATCH.branch-raw)
+    without_reply a.letter a.operations a.code a.listed arguments numbers owners (λ e. c.if-arguments_of-eq0.false
+    (c.arguments_of.ensures ∙ e)) (λ e. ⊎_elim (λ w. le-ltb 16 c.args.operations w.if-operations-gt-BATCH.false)
+    (λ w. absurd (w.if-letter-eq-BATCH.false e)) c.else-letter-eq-BATCH.branch-raw)
     (sym c.has_reply.ensures ∙ c.if-not-has_reply.true)
 
 pub returns-then-not-gives : goal.returns-then-not-gives
 returns-then-not-gives c arguments numbers owners =
     let a = c.args in
-    not_given a.letter a.operations a.code a.listed arguments numbers owners (λ e. c.if-arguments_of-eq0.false (c.arguments_of.ensures ∙ e)) (λ e. ⊎_elim (λ w. le-ltb 16 c.args.operations w.if-operations-gt-BATCH.false) (λ w. absurd (w.if-letter-eq-BATCH.false e)) c.else-letter-eq-BATCH.branch-raw)
+    not_given a.letter a.operations a.code a.listed arguments numbers owners (λ e. c.if-arguments_of-eq0.false
+    (c.arguments_of.ensures ∙ e)) (λ e. ⊎_elim (λ w. le-ltb 16 c.args.operations w.if-operations-gt-BATCH.false)
+    (λ w. absurd (w.if-letter-eq-BATCH.false e)) c.else-letter-eq-BATCH.branch-raw)
     (sym c.has_reply.ensures ∙ c.if-not-has_reply.false) (sym c.gives.ensures ∙ c.if-not-gives.true)
 
 pub returns-then-code-le-ANSWERED : goal.returns-then-code-le-ANSWERED
 returns-then-code-le-ANSWERED c arguments numbers owners =
     let a = c.args in
-    uncounted a.letter a.operations a.code a.listed arguments numbers owners (λ e. c.if-arguments_of-eq0.false (c.arguments_of.ensures ∙ e)) (λ e. ⊎_elim (λ w. le-ltb 16 c.args.operations w.if-operations-gt-BATCH.false) (λ w. absurd (w.if-letter-eq-BATCH.false e)) c.else-letter-eq-BATCH.branch-raw)
-    (sym c.has_reply.ensures ∙ c.if-not-has_reply.false) (sym c.gives.ensures ∙ c.if-not-gives.false) c.if-code-le-ANSWERED.true
+    uncounted a.letter a.operations a.code a.listed arguments numbers owners (λ e. c.if-arguments_of-eq0.false
+    (c.arguments_of.ensures ∙ e)) (λ e. ⊎_elim (λ w. le-ltb 16 c.args.operations w.if-operations-gt-BATCH.false)
+    (λ w. absurd (w.if-letter-eq-BATCH.false e)) c.else-letter-eq-BATCH.branch-raw)
+    (sym c.has_reply.ensures ∙ c.if-not-has_reply.false) (sym c.gives.ensures ∙ c.if-not-gives.false)
+    c.if-code-le-ANSWERED.true
 
 pub returns-else-code-le-ANSWERED : goal.returns-else-code-le-ANSWERED
 returns-else-code-le-ANSWERED c arguments numbers owners =
     let a = c.args in
-    counted a.letter a.operations a.code a.listed arguments numbers owners (λ e. c.if-arguments_of-eq0.false (c.arguments_of.ensures ∙ e)) (λ e. ⊎_elim (λ w. le-ltb 16 c.args.operations w.if-operations-gt-BATCH.false) (λ w. absurd (w.if-letter-eq-BATCH.false e)) c.else-letter-eq-BATCH.branch-raw)
-    (sym c.has_reply.ensures ∙ c.if-not-has_reply.false) (sym c.gives.ensures ∙ c.if-not-gives.false) c.if-code-le-ANSWERED.false
+    counted a.letter a.operations a.code a.listed arguments numbers owners (λ e. c.if-arguments_of-eq0.false
+    (c.arguments_of.ensures ∙ e)) (λ e. ⊎_elim (λ w. le-ltb 16 c.args.operations w.if-operations-gt-BATCH.false)
+    (λ w. absurd (w.if-letter-eq-BATCH.false e)) c.else-letter-eq-BATCH.branch-raw)
+    (sym c.has_reply.ensures ∙ c.if-not-has_reply.false) (sym c.gives.ensures ∙ c.if-not-gives.false)
+    c.if-code-le-ANSWERED.false

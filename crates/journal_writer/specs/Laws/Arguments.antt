@@ -1,5 +1,6 @@
 -- Which numbers the arguments of a record of the code are written as.
-use Rattle.std.specs.Prelude.{ℕ, suc, ◌+◌, ◌*◌, ◌-◌, ◌/◌, ◌≤◌, ◌≡◌, Bool, false, cond, ◌||◌, List, [], ◌∷◌, ◌++◌, eqb, length, take, drop}
+use Rattle.std.specs.Prelude.{ℕ, suc, ◌+◌, ◌*◌, ◌-◌, ◌/◌, ◌≤◌, ◌≡◌, Bool, false, cond, ◌||◌, List, [], ◌∷◌, ◌++◌, eqb}
+use Rattle.std.specs.Prelude.{length, take, drop}
 use Rattle.std.proofs.Common.{sym, ap, ◌∙◌, one-add, arith, length-take-le}
 use Rattle.std.proofs.Math.Path.{subst⁻¹}
 use Rattle.operations.proofs.Laws.Cases.{split}
@@ -32,7 +33,8 @@ counted_front operations (first ∷ arguments) few =
     omega (arith, length-take-le (4 * operations) arguments (omega arith)) in
     ap counted taken ∙ ap (λ (n : ℕ). first ∷ n ∷ take (4 * operations) arguments) count
 
-pub batch_numbers_lem : (letter operations : ℕ) (arguments : List ℕ) → letter ≡ 71 → 1 + 4 * operations ≤ length arguments
+pub batch_numbers_lem : (letter operations : ℕ) (arguments : List ℕ) → letter ≡ 71
+    → 1 + 4 * operations ≤ length arguments
     → argument_numbers letter (front (argument_count letter operations) arguments) ≡ batch_numbers operations arguments
 batch_numbers_lem letter operations arguments e few =
     subst⁻¹ (λ (l : ℕ). argument_numbers l (front (argument_count l operations) arguments)

@@ -1,5 +1,6 @@
 -- Which records of the code are shaped: their lists are as long as they should be, and the other tests are left.
-use Rattle.std.specs.Prelude.{ℕ, zero, suc, ◌+◌, ◌*◌, ◌-◌, ◌%◌, ◌≤◌, ◌<◌, ◌≡◌, refl, Bool, true, false, cond, not, ◌&&◌, ◌||◌, List, eqb, ltb, leb, length}
+use Rattle.std.specs.Prelude.{ℕ, zero, suc, ◌+◌, ◌*◌, ◌-◌, ◌%◌, ◌≤◌, ◌<◌, ◌≡◌, refl, Bool, true, false, cond, not, ◌&&◌}
+use Rattle.std.specs.Prelude.{◌||◌, List, eqb, ltb, leb, length}
 use Rattle.std.proofs.Common.{sym, ap, ap₂, ◌∙◌, arith, ltb-true, ltb-false, le-leb, leb-true, eq-eqb, eqb-true, ne_eqb}
 use Rattle.std.proofs.Math.Path.{subst⁻¹}
 use Rattle.std.proofs.Math.Bool.{and-true, and-false, and-eq-true_iff}
@@ -8,7 +9,8 @@ use Rattle.std.proofs.lemmas.Bool.{lt-leb, not-true}
 use Rattle.operations.proofs.Laws.Cases.{split, same}
 use Rattle.bitset.specs.Bitset.{members}
 use Rattle.protocol.specs.Calls.{operation_words, batch_limit}
-use Rattle.journal.specs.Records.{arguments_of, is_batch, has_reply, gives, operations_of, arguments_fit, reply_fits, shaped}
+use Rattle.journal.specs.Records.{arguments_of, is_batch, has_reply, gives, operations_of, arguments_fit, reply_fits}
+use Rattle.journal.specs.Records.{shaped}
 use Rattle.journal.specs.Records.{wait, answered, ended}
 use Rattle.journal.specs.Coded.{front, or_zero, argument_count, answer_count, record_of}
 use Rattle.journal_writer.specs.Numbers.{fields, Right}
@@ -142,7 +144,8 @@ module _ (letter operations code listed : ℕ) (arguments numbers : List ℕ) (o
       ∙ ap₂ (λ (a b : Bool). known && not (a && b) && reply_right letter listed code) (eq-eqb letter 71 e) past
       ∙ ap (λ (b : Bool). b && reply_right letter listed code) (and-false known))
 
-  module _ (known : or_zero (arguments_of letter) ≡ 0 → ⊥) (few : letter ≡ 71 → ltb batch_limit operations ≡ false) where
+  module _ (known : or_zero (arguments_of letter) ≡ 0 → ⊥) (few : letter ≡ 71 → ltb batch_limit operations
+      ≡ false) where
     arguments_right_lem : arguments_right letter operations ≡ true
     arguments_right_lem =
         ap (λ (b : Bool). not b && not (is_batch letter && ltb batch_limit operations)) (ne_eqb _ 0 known)
@@ -190,7 +193,8 @@ module _ (letter operations code listed : ℕ) (arguments numbers : List ℕ) (o
           batch =
               λ (e : is_batch letter ≡ true).
               let few =
-              ((and-eq-true_iff (not (eqb (or_zero (arguments_of letter)) 0)) (not (is_batch letter && ltb 16 operations))).0
+              ((and-eq-true_iff (not (eqb (or_zero (arguments_of letter)) 0)) (not (is_batch letter
+              && ltb 16 operations))).0
               both.0).1 in
               ltb-false 16 operations
               (not-true (ltb 16 operations) (sym (ap (λ (b : Bool). not (b && ltb 16 operations)) e) ∙ few));

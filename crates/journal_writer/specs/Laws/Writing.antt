@@ -1,6 +1,8 @@
 -- Numbers put one behind the other.
-use Rattle.std.specs.Prelude.{ℕ, ◌+◌, ◌/◌, ◌%◌, ◌≤◌, ◌<◌, ◌≡◌, refl, true, List, [], ◌∷◌, ◌++◌, length, drop, get_or, set}
-use Rattle.std.proofs.Common.{sym, ap, ◌∙◌, subst, append_assoc, append-nil, add-one, arith, lt-ltb, length-append, drop-cons}
+use Rattle.std.specs.Prelude.{ℕ, ◌+◌, ◌/◌, ◌%◌, ◌≤◌, ◌<◌, ◌≡◌, refl, true, List, [], ◌∷◌, ◌++◌, length, drop, get_or}
+use Rattle.std.specs.Prelude.{set}
+use Rattle.std.proofs.Common.{sym, ap, ◌∙◌, subst, append_assoc, append-nil, add-one, arith, lt-ltb, length-append}
+use Rattle.std.proofs.Common.{drop-cons}
 use Rattle.text.specs.Fields.{Put}
 use Rattle.text.proofs.Laws.Putting.{nothing, then, stored, length_put}
 use Rattle.journal.specs.Groups.{grouped, narrow}

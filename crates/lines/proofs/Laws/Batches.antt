@@ -1,6 +1,8 @@
 -- A batch, from the numbers of its line.
-use Rattle.std.specs.Prelude.{ℕ, ◌+◌, ◌-◌, ◌%◌, ◌≤◌, ◌<◌, ◌≡◌, refl, true, false, cond, List, [], ◌∷◌, ◌++◌, ltb, length, get_or, replicate, take, drop, set}
-use Rattle.std.proofs.Common.{add-one, arith, sym, ap, ap₂, ◌∙◌, eq-eqb, ne_eqb, lt-ltb, le-ltb, length-drop, length-set, get_or-drop, length-take-le, take-suc, take-suc-set, take_all}
+use Rattle.std.specs.Prelude.{ℕ, ◌+◌, ◌-◌, ◌%◌, ◌≤◌, ◌<◌, ◌≡◌, refl, true, false, cond, List, [], ◌∷◌, ◌++◌, ltb}
+use Rattle.std.specs.Prelude.{length, get_or, replicate, take, drop, set}
+use Rattle.std.proofs.Common.{add-one, arith, sym, ap, ap₂, ◌∙◌, eq-eqb, ne_eqb, lt-ltb, le-ltb, length-drop}
+use Rattle.std.proofs.Common.{length-set, get_or-drop, length-take-le, take-suc, take-suc-set, take_all}
 use Rattle.std.proofs.Math.Option.{none, some}
 use Rattle.protocol.specs.Calls.{too_many}
 use Rattle.protocol.specs.Call.{batch}

@@ -1,6 +1,8 @@
 -- The call of a letter and its numbers: a set up kind by kind, and the others by their letters.
-use Rattle.std.specs.Prelude.{ℕ, suc, ◌+◌, ◌-◌, ◌≤◌, ◌<◌, ◌≡◌, refl, Bool, true, false, cond, List, [], ◌∷◌, ◌++◌, eqb, leb, length, get_or, take, drop, set, replicate}
-use Rattle.std.proofs.Common.{add-one, arith, sym, ap, ap₂, ◌∙◌, eq-eqb, ne_eqb, leb-false, le-leb, lt-ltb, le-ltb, drop_of_length-le, drop-cons, get_or-take, length-take-le, take-suc}
+use Rattle.std.specs.Prelude.{ℕ, suc, ◌+◌, ◌-◌, ◌≤◌, ◌<◌, ◌≡◌, refl, Bool, true, false, cond, List, [], ◌∷◌, ◌++◌, eqb}
+use Rattle.std.specs.Prelude.{leb, length, get_or, take, drop, set, replicate}
+use Rattle.std.proofs.Common.{add-one, arith, sym, ap, ap₂, ◌∙◌, eq-eqb, ne_eqb, leb-false, le-leb, lt-ltb, le-ltb}
+use Rattle.std.proofs.Common.{drop_of_length-le, drop-cons, get_or-take, length-take-le, take-suc}
 use Rattle.std.proofs.Math.Option.{Option, none, some}
 use Rattle.std.proofs.lemmas.Bool.{lt-leb}
 use Rattle.std.proofs.Math.Seq.{append_snoc}
@@ -124,7 +126,8 @@ module _ (values : List ℕ) (long : length values ≡ 65) where
   front_length n l = length-take-le n values (omega arith)
 
   pub operate_asked : (letter count : ℕ) → letter ≡ 73 → count ≡ 5
-      → some (operate (get_or values 0 0) (get_or values 1 0) (get_or values 2 0) (get_or values 3 0) (get_or values 4 0))
+      → some (operate (get_or values 0 0) (get_or values 1 0) (get_or values 2 0) (get_or values 3 0)
+      (get_or values 4 0))
       ≡ asked letter (take count values)
   operate_asked letter count e f =
       let at : (i : ℕ) → i < 5 → get_or (take 5 values) i 0 ≡ get_or values i 0 = λ i l. get_or-take 5 values i 0 l in

@@ -1,5 +1,6 @@
 -- A line is a letter and the numbers behind it.
-use Rattle.std.specs.Prelude.{ℕ, ◌≤◌, ◌≡◌, refl, Bool, true, false, cond, List, [], ◌∷◌, eqb, leb, length, get_or, take, drop}
+use Rattle.std.specs.Prelude.{ℕ, ◌≤◌, ◌≡◌, refl, Bool, true, false, cond, List, [], ◌∷◌, eqb, leb, length, get_or, take}
+use Rattle.std.specs.Prelude.{drop}
 use Prim.Native.Char.{code}
 use Rattle.std.proofs.Common.{arith, sym, ap, ◌∙◌, eqb-true, leb-true, le-leb}
 use Rattle.std.proofs.Math.Option.{Option, none, some}

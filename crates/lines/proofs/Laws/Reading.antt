@@ -1,6 +1,8 @@
 -- The numbers of a line, read one by one: those that were read, before those that are left, are the whole.
-use Rattle.std.specs.Prelude.{ℕ, ◌+◌, ◌-◌, ◌≤◌, ◌<◌, ◌≡◌, refl, List, [], ◌∷◌, ◌++◌, length, get_or, replicate, take, set}
-use Rattle.std.proofs.Common.{add-one, sym, ◌∙◌, append-nil, eq-eqb, ne_eqb, length-append, drop_of_length-le, length-set, drop-cons, drop-drop, take-suc-set, length-take-le}
+use Rattle.std.specs.Prelude.{ℕ, ◌+◌, ◌-◌, ◌≤◌, ◌<◌, ◌≡◌, refl, List, [], ◌∷◌, ◌++◌, length, get_or, replicate, take}
+use Rattle.std.specs.Prelude.{set}
+use Rattle.std.proofs.Common.{add-one, sym, ◌∙◌, append-nil, eq-eqb, ne_eqb, length-append, drop_of_length-le}
+use Rattle.std.proofs.Common.{length-set, drop-cons, drop-drop, take-suc-set, length-take-le}
 use native.Mathlib.Omega.{arith}
 use Rattle.std.proofs.Math.Path.{ap, ap₂}
 use Rattle.std.proofs.Math.Option.{Option, none, some}

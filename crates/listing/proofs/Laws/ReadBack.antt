@@ -1,5 +1,6 @@
 -- A call's letter and arguments, printed as a line, are read as the same call.
-use Rattle.std.specs.Prelude.{ℕ, zero, suc, ◌-◌, ◌≡◌, refl, Bool, true, false, cond, not, ◌&&◌, ◌||◌, List, [], ◌∷◌, ◌++◌, map, eqb, ltb, leb, length, get_or, replicate}
+use Rattle.std.specs.Prelude.{ℕ, zero, suc, ◌-◌, ◌≡◌, refl, Bool, true, false, cond, not, ◌&&◌, ◌||◌, List, [], ◌∷◌}
+use Rattle.std.specs.Prelude.{◌++◌, map, eqb, ltb, leb, length, get_or, replicate}
 use Rattle.std.proofs.Common.{sym, ap, ap₂, ◌∙◌, subst, append-nil, arith, ltb-true, leb-true, ne_eqb, length-append}
 use Rattle.std.proofs.Math.Option.{Option, none, some, some-injective, none-ne-some}
 use Rattle.std.proofs.lemmas.Bool.{not-true}
@@ -12,7 +13,8 @@ use Rattle.text.specs.Text.{split, longer, value_after, is_number, number_in, de
 use Rattle.text.proofs.Theorems.{read_back}
 use Rattle.text.proofs.Laws.Tests.{left, right}
 use Rattle.text.proofs.Laws.Lines.{Without, split_ended, decimal_without}
-use Rattle.lines.specs.Lines.{lent, with_first, numbers_in, with_count, set_up_of, batch_of, asked, asked_with, call_of_fields}
+use Rattle.lines.specs.Lines.{lent, with_first, numbers_in, with_count, set_up_of, batch_of, asked, asked_with}
+use Rattle.lines.specs.Lines.{call_of_fields}
 use Rattle.lines.specs.Lines.{call_in}
 use Rattle.replies.specs.Printed.{spaced}
 use Rattle.journal.specs.Groups.{narrow}
@@ -137,7 +139,8 @@ module _ (n : ℕ) where
   small_padded [] = all_small n
   small_padded (k ∷ kinds) = ap (λ (b : Bool). ltb k 4_294_967_296 && b) (small_padded kinds)
 
-whole_set_up : (kinds : List ℕ) → length kinds ≡ 16 → some_above 255 kinds ≡ false → set_up_of kinds ≡ some (set_up kinds)
+whole_set_up : (kinds : List ℕ) → length kinds ≡ 16 → some_above 255 kinds ≡ false → set_up_of kinds ≡ some
+    (set_up kinds)
 whole_set_up kinds all low = rw (all, low, append-nil)
 
 small_at : (numbers : List ℕ) (i : ℕ) → narrow numbers ≡ true → ltb (get_or numbers i 0) 4_294_967_296 ≡ true

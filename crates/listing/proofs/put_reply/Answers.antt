@@ -9,10 +9,19 @@ use Rattle.listing.proofs.put_reply.Goals as goal
 -- ---- What each case asks for
 
 pub put-requires : goal.put-requires
-put-requires c = omega (arith, (says_ok c.args.content (sym c.has_reply.ensures ∙ c.if-not-has_reply.true)).short, c.requires.0)
+put-requires c = omega (
+  arith,
+  (says_ok c.args.content (sym c.has_reply.ensures ∙ c.if-not-has_reply.true)).short,
+  c.requires.0,
+)
 
 pub put_wait-requires : goal.put_wait-requires
-put_wait-requires c = omega (arith, (says_wait c.args.content (sym c.has_reply.ensures ∙ c.if-not-has_reply.false) c.in-0.is).short, c.requires.0)
+put_wait-requires c = omega (
+  arith,
+  (says_wait c.args.content (sym c.has_reply.ensures
+      ∙ c.if-not-has_reply.false) c.in-0.is).short,
+  c.requires.0,
+)
 
 pub answer_count-count-requires : goal.answer_count-count-requires
 answer_count-count-requires c =
@@ -22,7 +31,12 @@ pub put_list-requires : goal.put_list-requires
 put_list-requires c =
     let r = c.args.content in
     let count = c.answer_count-count in (
-      omega (arith, (lists_answers c.args.content (sym c.has_reply.ensures ∙ c.if-not-has_reply.false) c.in-1.is c.answer_count-count.ensures).short, c.requires.0),
+      omega (
+        arith,
+        (lists_answers c.args.content (sym c.has_reply.ensures ∙ c.if-not-has_reply.false) c.in-1.is
+            c.answer_count-count.ensures).short,
+        c.requires.0,
+      ),
       omega (
         arith,
         count.ensures,
@@ -34,10 +48,16 @@ put_list-requires c =
 pub put_list-requires-in_default : goal.put_list-requires-in_default
 put_list-requires-in_default c =
     let r = c.args.content in (
-      omega (arith, (lists_ended c.args.content (sym c.has_reply.ensures ∙ c.if-not-has_reply.false) (λ e. omega arith) (λ e. omega arith)).short, c.requires.0),
       omega (
         arith,
-        few_listed r c.requires.1 (sym c.has_reply.ensures ∙ c.if-not-has_reply.false) (λ e. omega arith) (λ e. omega arith),
+        (lists_ended c.args.content (sym c.has_reply.ensures ∙ c.if-not-has_reply.false) (λ e. omega arith)
+            (λ e. omega arith)).short,
+        c.requires.0,
+      ),
+      omega (
+        arith,
+        few_listed r c.requires.1 (sym c.has_reply.ensures ∙ c.if-not-has_reply.false) (λ e. omega arith)
+            (λ e. omega arith),
         c.well_formed,
       ),
     )
@@ -57,9 +77,11 @@ returns-in-0 c =
 pub returns-in-1 : goal.returns-in-1
 returns-in-1 c =
     let put = c.put_list.ensures in
-    replied (lists_answers c.args.content (sym c.has_reply.ensures ∙ c.if-not-has_reply.false) c.in-1.is c.answer_count-count.ensures) put.0 (omega (arith, put.1))
+    replied (lists_answers c.args.content (sym c.has_reply.ensures ∙ c.if-not-has_reply.false) c.in-1.is
+    c.answer_count-count.ensures) put.0 (omega (arith, put.1))
 
 pub returns-in_default : goal.returns-in_default
 returns-in_default c =
     let put = c.put_list-in_default.ensures in
-    replied (lists_ended c.args.content (sym c.has_reply.ensures ∙ c.if-not-has_reply.false) (λ e. omega arith) (λ e. omega arith)) put.0 (omega (arith, put.1))
+    replied (lists_ended c.args.content (sym c.has_reply.ensures ∙ c.if-not-has_reply.false) (λ e. omega arith)
+    (λ e. omega arith)) put.0 (omega (arith, put.1))

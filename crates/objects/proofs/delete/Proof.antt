@@ -35,7 +35,8 @@ returns c =
     let closed = c in
     let p = closed.before.before.before.before.before in
     closed.close_at.ensures
-    ∙ ap (with_rows (part p)) (removed_deleted (part p) (start p).args.key _ (here p) (found closed.before.before.before.before))
+    ∙ ap (with_rows (part p)) (removed_deleted (part p) (start p).args.key _ (here p)
+    (found closed.before.before.before.before))
 
 returns_2 : tie.Need-returns-else-present
 returns_2 c =

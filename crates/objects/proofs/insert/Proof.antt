@@ -38,7 +38,8 @@ returns c =
     let p = opened.before.before.before.before.before in
     opened.open_at.ensures
     ∙ ap (with_rows (part p))
-    (put_inserted (part p) (start p).args.key _ (here p) (start p).args.value (absent opened.before.before.before.before))
+    (put_inserted (part p) (start p).args.key _ (here p) (start p).args.value (absent
+    opened.before.before.before.before))
 
 returns_2 : tie.Need-returns-else-not-present
 returns_2 c =

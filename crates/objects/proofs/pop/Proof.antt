@@ -13,7 +13,10 @@ returns c =
     let wide = closed.before.before.before in
     let part = wide.before.before.before.args.part.now in
     closed.close_at.ensures
-    ∙ ap (with_rows part) (last_removed part _ wide.wide-count.ensures (omega (arith, closed.before.before.if-count-gt0.true)))
+    ∙ ap (with_rows part) (last_removed part _ wide.wide-count.ensures (omega (
+      arith,
+      closed.before.before.if-count-gt0.true,
+    )))
 
 returns_2 : tie.Need-returns-else-count-gt0
 returns_2 c =

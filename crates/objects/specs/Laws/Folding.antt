@@ -1,6 +1,9 @@
 -- An operation folded into an object: on the part that starts with it, and on the book.
-use Rattle.std.specs.Prelude.{ℕ, zero, suc, ◌+◌, ◌-◌, ◌*◌, ◌≤◌, ◌<◌, ◌≡◌, refl, List, [], ◌∷◌, ◌++◌, map, length, set, take, drop}
-use Rattle.std.proofs.Common.{sym, ap, ap₂, ◌∙◌, subst, append_assoc, append-nil, not-suc-le-zero, add-zero, mul-zero, mul-suc, arith, take-append-drop, length-take, length-drop, drop_of_length-le, ext_get_or, length-take-le, drop_at, get_or-take, get_or-drop}
+use Rattle.std.specs.Prelude.{ℕ, zero, suc, ◌+◌, ◌-◌, ◌*◌, ◌≤◌, ◌<◌, ◌≡◌, refl, List, [], ◌∷◌, ◌++◌, map, length, set}
+use Rattle.std.specs.Prelude.{take, drop}
+use Rattle.std.proofs.Common.{sym, ap, ap₂, ◌∙◌, subst, append_assoc, append-nil, not-suc-le-zero, add-zero, mul-zero}
+use Rattle.std.proofs.Common.{mul-suc, arith, take-append-drop, length-take, length-drop, drop_of_length-le, ext_get_or}
+use Rattle.std.proofs.Common.{length-take-le, drop_at, get_or-take, get_or-drop}
 use Rattle.std.proofs.Math.Option.{Option, some}
 use borrow.Rule.Slice.PartMut.{put_mid}
 use Rattle.std.proofs.lemmas.List.{length-map, take-append-le, drop-append-le}
@@ -13,7 +16,8 @@ use Rattle.operations.specs.Stored.{operation_of}
 use Rattle.replay.specs.Replay.{row_of, next_by, next_named}
 use Rattle.store.specs.Store.{Object, Store, object_of}
 use Rattle.store.specs.Layout.{word, tabulate, joined, padded, status_word, kind_word, row_words, entry_words, encode}
-use Rattle.store.specs.Layout.{decode, base, read_kind, object_start, row_at, rows_at, object_words, Packed, Representable}
+use Rattle.store.specs.Layout.{decode, base, read_kind, object_start, row_at, rows_at, object_words, Packed}
+use Rattle.store.specs.Layout.{Representable}
 use Rattle.store.specs.Steps.{with_objects, carried, folded}
 use Rattle.store.proofs.Theorems.{encoded, representable}
 use Rattle.store.proofs.Laws.Reading.{object_read}
@@ -167,7 +171,8 @@ module _ (w : List ℕ) (packed : Packed base w) (object : ℕ) (l : object < 16
       in
       ap₂ words_of kind rows ∙ ap (λ (x : Object). object_words (carried o x)) (sym (object_read base w object l))
 
-  pub book_folded : (part : List ℕ) → part ≡ with_rows (part_at w object) (next_named operation (rows_in (part_at w object)))
+  pub book_folded : (part : List ℕ) → part ≡ with_rows (part_at w object) (next_named operation (rows_in
+      (part_at w object)))
       → put_mid (object_start object) (length w - object_start object) w part
       ≡ encode base (folded object o (decode base w))
   book_folded part e =

@@ -1,6 +1,7 @@
 -- Ranges and zeros of one object.
 use Rattle.std.specs.Prelude.{ℕ, ◌+◌, ◌-◌, ◌*◌, ◌≤◌, ◌<◌, ◌≡◌, true, ◌↔◌, List, eqb, leb, take, drop}
-use Rattle.std.proofs.Common.{ap, sym, ◌∙◌, arith, eqb-true, leb-true, eq-eqb, le-leb, length-take, get_or-take, get_or-drop}
+use Rattle.std.proofs.Common.{ap, sym, ◌∙◌, arith, eqb-true, leb-true, eq-eqb, le-leb, length-take, get_or-take}
+use Rattle.std.proofs.Common.{get_or-drop}
 use Rattle.std.proofs.Math.ListN.{get_or-eq_default}
 use Rattle.store.specs.Layout.{word, object_start, ObjectPacked}
 use Rattle.store.proofs.Laws.Words.{below}

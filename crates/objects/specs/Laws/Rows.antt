@@ -1,6 +1,7 @@
 -- The form of an object's rows, by what is tested: their second words, neighbouring keys and the kind.
 use Rattle.std.specs.Prelude.{ℕ, zero, suc, ◌+◌, ◌≤◌, ◌<◌, ◌≡◌, refl, Bool, true, false, ◌||◌, ◌↔◌, List, eqb, leb, ltb}
-use Rattle.std.proofs.Common.{ap, sym, ◌∙◌, subst, true≢false, not-suc-le-zero, arith, below_none, below_more, ltb-true, lt-ltb, leb-false}
+use Rattle.std.proofs.Common.{ap, sym, ◌∙◌, subst, true≢false, not-suc-le-zero, arith, below_none, below_more, ltb-true}
+use Rattle.std.proofs.Common.{lt-ltb, leb-false}
 use Rattle.std.proofs.Math.Option.{some, none-ne-some}
 use Rattle.std.proofs.lemmas.Bool.{lt-leb}
 use Rattle.std.specs.Int.Bits.{bit_or}

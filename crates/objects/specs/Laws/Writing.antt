@@ -1,6 +1,8 @@
 -- Rows changed in place, in the part of a book that starts with their object.
-use Rattle.std.specs.Prelude.{ℕ, zero, suc, ◌+◌, ◌-◌, ◌*◌, ◌≤◌, ◌<◌, ◌≡◌, refl, true, false, List, [], ◌∷◌, ◌++◌, length, get_or, set, take, drop, replicate}
-use Rattle.std.proofs.Common.{sym, ap, ap₂, ◌∙◌, append_assoc, not-suc-le-zero, add-one, arith, length-append, length-set, drop_of_length-le, length-take-le, take_all}
+use Rattle.std.specs.Prelude.{ℕ, zero, suc, ◌+◌, ◌-◌, ◌*◌, ◌≤◌, ◌<◌, ◌≡◌, refl, true, false, List, [], ◌∷◌, ◌++◌}
+use Rattle.std.specs.Prelude.{length, get_or, set, take, drop, replicate}
+use Rattle.std.proofs.Common.{sym, ap, ap₂, ◌∙◌, append_assoc, not-suc-le-zero, add-one, arith, length-append}
+use Rattle.std.proofs.Common.{length-set, drop_of_length-le, length-take-le, take_all}
 use Rattle.std.proofs.lemmas.List.{length-map, set_split, set-get_or}
 use Rattle.std.proofs.Math.Seq.{set-append_seam}
 use Rattle.operations.specs.Operations.{Row, row, present, inserted, deleted, modified}
@@ -259,7 +261,8 @@ module _ (w : List ℕ) (k at : ℕ) (here : at ≡ position_of k (rows_in w)) w
     omega (arith, rows_count w, inserted_more k (rows_in w) v h),
   )
 
-  pub put_inserted : (v : ℕ) → present k (rows_in w) ≡ false → put_at at (row k v) (rows_in w) ≡ inserted k v (rows_in w)
+  pub put_inserted : (v : ℕ) → present k (rows_in w) ≡ false → put_at at (row k v) (rows_in w) ≡ inserted k v
+      (rows_in w)
   put_inserted v h = rw here (sym ((absent k (rows_in w) h).inserts v))
 
   pub removed_deleted : present k (rows_in w) ≡ true → removed_at at (rows_in w) ≡ deleted k (rows_in w)

@@ -40,7 +40,7 @@ beq_true false false e = refl
 eqb_swap : (j k : ℕ) → eqb j k ≡ eqb k j
 eqb_swap j k = by_key (λ (i : ℕ). eqb i k ≡ eqb k i) j k refl (λ n. ne_eqb j k n ∙ sym (ne_eqb k j (λ q. n (sym q))))
 
--- ---- Operations that reach the same rows in on_both order
+-- ---- Operations that reach the same rows in both orders
 
 -- An operation that leaves the rows as they are, by its number: top, member, lookup, size.
 abbrev pub reading : ℕ → Bool

@@ -30,8 +30,10 @@ by_kind P f g h kind o e = subst (λ (k : Kind). P k o) e (own o)
     own (on_set o) = g o
     own (on_table o) = h o
 
-pub by_kinds : (P : Kind → Operation → Operation → Type 0) → ((o p : StackOperation) → P Stack (on_stack o) (on_stack p))
-    → ((o p : SetOperation) → P Set (on_set o) (on_set p)) → ((o p : TableOperation) → P Table (on_table o) (on_table p))
+pub by_kinds : (P : Kind → Operation → Operation → Type 0) → ((o p : StackOperation) → P Stack (on_stack o)
+    (on_stack p))
+    → ((o p : SetOperation) → P Set (on_set o) (on_set p)) → ((o p : TableOperation) → P Table (on_table o)
+    (on_table p))
     → (kind : Kind) (o p : Operation) → kind_of o ≡ kind → kind_of p ≡ kind → P kind o p
 by_kinds P f g h kind o p e d = subst (λ (k : Kind). P k o p) e (own o p (d ∙ sym e))
   where
@@ -117,7 +119,8 @@ module _ (reduce : ℕ → ℕ) (kind : Kind) where
     apart_next : (s : List Row) → Fits reduce kind o → Fits reduce kind p → WellFormed reduce kind s
         → keyed kind && not (eqb (key_of o) (key_of p)) ≡ true → next o (next p s) ≡ next p (next o s)
     apart_next s f g =
-        by_kinds (λ (k : Kind) (q r : Operation). WellFormed reduce k s → keyed k && not (eqb (key_of q) (key_of r)) ≡ true
+        by_kinds (λ (k : Kind) (q r : Operation). WellFormed reduce k s → keyed k && not (eqb (key_of q) (key_of r))
+        ≡ true
         → next q (next r s) ≡ next r (next q s))
         (λ q r v e. absurd (false≢true e)) (λ q r v e. set_apart q r s (differ _ _ e) v.2)
         (λ q r v e. apart_commutes q r s (differ _ _ e) v.1) kind o p f.0 g.0

@@ -64,11 +64,13 @@ set_view_next (member k) p s t a b e = present_carried p k s t a b e
 member_kept : (o : Operation) (p : SetOperation) (rs : List Row) → Ascending rs
     → allows (rule_at set_recoverable 1 (number_of (on_set p) - 4)) o (on_set p) ≡ true
     → present (key_of o) (set_next p rs) ≡ present (key_of o) rs
-member_kept o (set_insert k) rs a e = ap is_some (found_other (table_insert k 0) rs a (key_of o) (differ (key_of o) k e))
+member_kept o (set_insert k) rs a e = ap is_some (found_other (table_insert k 0) rs a (key_of o) (differ
+    (key_of o) k e))
 member_kept o (set_delete k) rs a e = ap is_some (found_other (table_delete k) rs a (key_of o) (differ (key_of o) k e))
 member_kept o (member k) rs a e = refl
 
-pub set_view_recoverable : (o p : SetOperation) (rs : List Row) → Ascending rs → recoverable (on_set o) (on_set p) ≡ true
+pub set_view_recoverable : (o p : SetOperation) (rs : List Row) → Ascending rs → recoverable (on_set o) (on_set p)
+    ≡ true
     → set_view o (set_next p rs) ≡ set_view o rs
 set_view_recoverable (set_insert k) p rs a e = refl
 set_view_recoverable (set_delete k) p rs a e = member_kept (on_set (set_delete k)) p rs a e

@@ -89,7 +89,8 @@ present_own p rs a = ap is_some (found_own p rs a) ∙ change_presence p (found 
 pub present_next : (p : TableOperation) (j : ℕ) (s t : List Row) → Ascending s → Ascending t → present j s ≡ present j t
     → present j (table_next p s) ≡ present j (table_next p t)
 present_next p j s t a b =
-    by_key (λ (i : ℕ). present i s ≡ present i t → present i (table_next p s) ≡ present i (table_next p t)) j (table_key p)
+    by_key (λ (i : ℕ). present i s ≡ present i t → present i (table_next p s) ≡ present i (table_next p t)) j
+    (table_key p)
     (λ e. present_own p s a ∙ ap (presence p) e ∙ sym (present_own p t b))
     (λ n e. ap is_some (found_other p s a j n) ∙ e ∙ sym (ap is_some (found_other p t b j n)))
 
@@ -113,7 +114,8 @@ table_view (lookup k) rs = found k rs
 table_view size rs = λ j. present j rs
 table_view (modify k v) rs = present k rs
 
-pub table_answer_lem : (o : TableOperation) (s t : List Row) → Ascending s → Ascending t → table_view o s ≡ table_view o t
+pub table_answer_lem : (o : TableOperation) (s t : List Row) → Ascending s → Ascending t → table_view o s
+    ≡ table_view o t
     → table_answer o s ≡ table_answer o t
 table_answer_lem (table_insert k v) s t a b e = ap (λ (x : Bool). flag (not x)) e
 table_answer_lem (table_delete k) s t a b e = ap flag e
@@ -142,7 +144,8 @@ present_kept : (o : Operation) (p : TableOperation) (rs : List Row) → Ascendin
     → present (key_of o) (table_next p rs) ≡ present (key_of o) rs
 present_kept o (table_insert k v) rs a e =
     ap is_some (found_other (table_insert k v) rs a (key_of o) (differ (key_of o) k e))
-present_kept o (table_delete k) rs a e = ap is_some (found_other (table_delete k) rs a (key_of o) (differ (key_of o) k e))
+present_kept o (table_delete k) rs a e = ap is_some (found_other (table_delete k) rs a (key_of o) (differ
+    (key_of o) k e))
 present_kept o (lookup k) rs a e = refl
 present_kept o size rs a e = refl
 present_kept o (modify k v) rs a e = modify_present k v (key_of o) rs a

@@ -1,5 +1,6 @@
 -- Where the tables say no: a state of at most one row that shows it.
-use Rattle.std.specs.Prelude.{ℕ, ◌-◌, ◌≤◌, ◌<◌, ◌^◌, ◌≡◌, refl, Bool, true, false, not, cond, List, [], ◌∷◌, eqb, length, get_or}
+use Rattle.std.specs.Prelude.{ℕ, ◌-◌, ◌≤◌, ◌<◌, ◌^◌, ◌≡◌, refl, Bool, true, false, not, cond, List, [], ◌∷◌, eqb}
+use Rattle.std.specs.Prelude.{length, get_or}
 use Rattle.std.proofs.Common.{sym, ap, subst₂, ◌∙◌, true≢false, arith, eqb-true}
 use Rattle.std.proofs.Math.Bool.{and-eq-true_iff}
 use Rattle.std.proofs.Math.Option.{none, some}
@@ -162,7 +163,8 @@ set_no : (o p : SetOperation) → recoverable (on_set o) (on_set p) ≡ false
 set_no (set_insert k) (set_insert j) e = absurd (true≢false e)
 set_no (set_insert k) (set_delete j) e = absurd (true≢false e)
 set_no (set_insert k) (member j) e = absurd (true≢false e)
-set_no (set_delete k) p e = rw (member_turns (on_set (set_delete k)) p e) (flags_differ (present k (witness (on_set p))))
+set_no (set_delete k) p e = rw (member_turns (on_set (set_delete k)) p e) (flags_differ (present k (witness
+    (on_set p))))
 set_no (member k) p e = rw (member_turns (on_set (member k)) p e) (flags_differ (present k (witness (on_set p))))
 
 pub witness_differs : (kind : Kind) (o p : Operation) → kind_of o ≡ kind → kind_of p ≡ kind → recoverable o p ≡ false

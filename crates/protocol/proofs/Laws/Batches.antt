@@ -1,7 +1,9 @@
 -- Several operations of a transaction, run in order: whom they wait for, what they log, and that they keep a store
 -- sound.
-use Rattle.std.specs.Prelude.{ℕ, zero, suc, ◌+◌, ◌≤◌, ◌<◌, ◌≡◌, refl, Bool, true, false, ◌↔◌, ◌⊎◌, List, [], ◌∷◌, ◌++◌, length, get_or, take}
-use Rattle.std.proofs.Common.{sym, ap, ap₂, ◌∙◌, subst, true≢false, inl, inr, ⊎_elim, append-nil, arith, leb-true, leb-false, length-append}
+use Rattle.std.specs.Prelude.{ℕ, zero, suc, ◌+◌, ◌≤◌, ◌<◌, ◌≡◌, refl, Bool, true, false, ◌↔◌, ◌⊎◌, List, [], ◌∷◌, ◌++◌}
+use Rattle.std.specs.Prelude.{length, get_or, take}
+use Rattle.std.proofs.Common.{sym, ap, ap₂, ◌∙◌, subst, true≢false, inl, inr, ⊎_elim, append-nil, arith, leb-true}
+use Rattle.std.proofs.Common.{leb-false, length-append}
 use Rattle.std.proofs.Math.Seq.{append_snoc}
 use Rattle.operations.specs.Operations.{Operation, Answer, All, answer, next, reduce_key, answering}
 use Rattle.operations.specs.Log.{Entry, after}
@@ -112,7 +114,8 @@ module _ (t : ℕ) where
   run_all_kept s [] kept is_active_lem each free = kept
   run_all_kept s (q ∷ qs) kept is_active_lem (a, later) free =
       let (first, rest) = (free_first s q qs).0 free in
-      run_all_kept (run base t q s) qs (run_kept s q kept is_active_lem a first) is_active_lem later (awaited_run s q qs ∙ rest)
+      run_all_kept (run base t q s) qs (run_kept s q kept is_active_lem a first) is_active_lem later (awaited_run s q qs
+      ∙ rest)
 
   -- ---- What they log
 

@@ -209,7 +209,8 @@ tells r n (inl e) = ap told e
 tells r n (inr (inl e)) = ap told e
 tells r n (inr (inr e)) = ap told e
 
-module _ (w : List ℕ) (t : ℕ) (list : List ℕ) (accepted : end_reason base whether_sound w t list ≡ 0) (n : ℕ) (r : Served)
+module _ (w : List ℕ) (t : ℕ) (list : List ℕ) (accepted : end_reason base whether_sound w t list ≡ 0) (n : ℕ)
+    (r : Served)
     (names : NamesCount r.outcome.reply n) where
   abbrev book : Store
   book = decode base w

@@ -1,5 +1,6 @@
 -- Set up, begin, an operation entered and a transaction pseudo-committed each leave a sound store.
-use Rattle.std.specs.Prelude.{ℕ, zero, suc, ◌+◌, ◌≤◌, ◌<◌, ◌≡◌, refl, Bool, true, false, cond, ◌↔◌, ◌⊎◌, List, [], ◌∷◌, ◌++◌, map, length, get_or, set, replicate}
+use Rattle.std.specs.Prelude.{ℕ, zero, suc, ◌+◌, ◌≤◌, ◌<◌, ◌≡◌, refl, Bool, true, false, cond, ◌↔◌, ◌⊎◌, List, [], ◌∷◌}
+use Rattle.std.specs.Prelude.{◌++◌, map, length, get_or, set, replicate}
 use Rattle.std.proofs.Common.{sym, ap, ◌∙◌, subst, inl, inr, ⊎_elim, append-nil, arith, eq-eqb, ne_eqb}
 use Rattle.std.proofs.Math.Option.{none, some, some-injective}
 use Rattle.std.proofs.lemmas.List.{length-replicate, get_or-replicate, length-map}
@@ -11,7 +12,8 @@ use Rattle.operations.specs.Log.{Entry, after, Recovers, Recoverable, Answered}
 use Rattle.operations.proofs.Laws.ObjectTypes.{ObjectType, Log}
 use Rattle.operations.proofs.Laws.Cases.{split, same, all_map, all_append}
 use Rattle.operations.proofs.Laws.Objects.{object}
-use Rattle.store.specs.Store.{Status, absent, active, pseudo_committed, Object, Logged, Store, status_of, object_of, Live}
+use Rattle.store.specs.Store.{Status, absent, active, pseudo_committed, Object, Logged, Store, status_of, object_of}
+use Rattle.store.specs.Store.{Live}
 use Rattle.store.specs.Store.{Active, PseudoCommitted, pseudo_committed_count, on_object}
 use Rattle.store.specs.Dependency.{Conflict, DependsOn, Ready, Leads, OnCycle}
 use Rattle.store.specs.Layout.{read_kind, ObjectFits, Representable, additions, base}

@@ -51,7 +51,8 @@ module _ (w : List ℕ) (h : Sound base w) where
   set_up_kept : (kinds : List ℕ) → Sound base (set_up base w kinds).book
   unfolding set_up
   set_up_kept kinds =
-      unless_kept (Sound base) (set_up_reason base w kinds) w [] (served (encode base (empty kinds)) (outcome ok [] [])) h
+      unless_kept (Sound base) (set_up_reason base w kinds) w [] (served (encode base (empty kinds))
+      (outcome ok [] [])) h
       (empty_encoded w kinds)
 
   module _ (whether_sound : (w : List ℕ) → Dec (Sound base w)) where
@@ -116,7 +117,8 @@ module _ (w : List ℕ) (h : Sound base w) (whether_sound : (w : List ℕ) → D
   finish_kept : (t : ℕ) (list : List ℕ) → Sound base (finish base whether_sound w t list).book
   unfolding finish
   finish_kept t list =
-      unless_kept (Sound base) (end_reason base whether_sound w t list) w list (finish_active base (decode base w) t list)
+      unless_kept (Sound base) (end_reason base whether_sound w t list) w list (finish_active base
+      (decode base w) t list)
       h
       (λ e. finished_sound (decode base w) t (fits w h) h.store (end_accepted base whether_sound w t list e).active
       list)

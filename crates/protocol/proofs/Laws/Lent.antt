@@ -1,6 +1,8 @@
 -- Operations lent as words: the one at each place, and what running the first of them leaves.
-use Rattle.std.specs.Prelude.{ℕ, zero, suc, ◌+◌, ◌*◌, ◌/◌, ◌≤◌, ◌<◌, ◌≡◌, refl, Bool, true, ◌↔◌, List, [], ◌∷◌, ◌++◌, leb, length, get_or, take, drop}
-use Rattle.std.proofs.Common.{sym, ap, ap₂, ◌∙◌, inl, inr, append-nil, add-one, arith, eq-eqb, ne_eqb, leb-true, le-leb, drop_of_length-le, take-suc, drop-cons}
+use Rattle.std.specs.Prelude.{ℕ, zero, suc, ◌+◌, ◌*◌, ◌/◌, ◌≤◌, ◌<◌, ◌≡◌, refl, Bool, true, ◌↔◌, List, [], ◌∷◌, ◌++◌}
+use Rattle.std.specs.Prelude.{leb, length, get_or, take, drop}
+use Rattle.std.proofs.Common.{sym, ap, ap₂, ◌∙◌, inl, inr, append-nil, add-one, arith, eq-eqb, ne_eqb, leb-true, le-leb}
+use Rattle.std.proofs.Common.{drop_of_length-le, take-suc, drop-cons}
 use Rattle.std.proofs.Math.Bool.{and-eq-true_iff}
 use Rattle.operations.specs.Operations.{Operation, Answer, adds}
 use Rattle.operations.specs.Log.{Entry}
@@ -27,7 +29,8 @@ lent_count (o ∷ number ∷ []) = refl
 lent_count (o ∷ number ∷ k ∷ []) = refl
 lent_count (o ∷ number ∷ k ∷ v ∷ l) = omega (arith, lent_count l)
 
-pub lent_at_lem : (l : List ℕ) (i : ℕ) (d : LentOperation) → 4 * i + 4 ≤ length l → get_or (operations_in l) i d ≡ lent_at l i
+pub lent_at_lem : (l : List ℕ) (i : ℕ) (d : LentOperation) → 4 * i + 4 ≤ length l → get_or (operations_in l) i d
+    ≡ lent_at l i
 lent_at_lem [] i d e = absurd (omega (arith, e))
 lent_at_lem (o ∷ []) i d e = absurd (omega (arith, e))
 lent_at_lem (o ∷ number ∷ []) i d e = absurd (omega (arith, e))
@@ -75,7 +78,8 @@ module _ (format : Format) (t : ℕ) where
 
   -- One more of them.
   module _ (qs : List LentOperation) (i : ℕ) (d : LentOperation) (within : i < length qs) (s : Store) where
-    pub run_one_more : run_all format t (take (suc i) qs) s ≡ run format t (get_or qs i d) (run_all format t (take i qs) s)
+    pub run_one_more : run_all format t (take (suc i) qs) s ≡ run format t (get_or qs i d) (run_all format t
+        (take i qs) s)
     run_one_more =
         ap (λ (l : List LentOperation). run_all format t l s) (take-suc qs i d within)
         ∙ run_append (take i qs) (get_or qs i d ∷ []) s

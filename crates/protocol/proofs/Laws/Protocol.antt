@@ -1,5 +1,6 @@
 -- What a call that is not refused replies, and on whom a transaction depends afterwards.
-use Rattle.std.specs.Prelude.{ℕ, zero, suc, ◌+◌, ◌≤◌, ◌<◌, ◌≡◌, refl, false, ◌↔◌, ◌⊎◌, List, [], ◌∷◌, ◌++◌, length, get_or}
+use Rattle.std.specs.Prelude.{ℕ, zero, suc, ◌+◌, ◌≤◌, ◌<◌, ◌≡◌, refl, false, ◌↔◌, ◌⊎◌, List, [], ◌∷◌, ◌++◌, length}
+use Rattle.std.specs.Prelude.{get_or}
 use Rattle.std.proofs.Common.{sym, ap, ◌∙◌, subst, inl, inr, ⊎_elim, arith}
 use Rattle.std.proofs.lemmas.Bool.{false≢true}
 use Rattle.std.proofs.Math.Bool.{decide, decide_iff}
@@ -300,7 +301,8 @@ module _ (s : Store) (t : ℕ) (list : List ℕ) where
   pub finish_by : (P : Served → Type 0) → (OnCircle s t → P (concluded base circle list (settled_all (ended t s))))
       → (OnNobody s t → P (concluded base committed list (committed_first t (settled_all (commit t s)))))
       → (OnOthers s t
-      → P (served (encode base (with_status t (pseudo_committed (pseudo_committed_count s)) s)) (outcome finished list [])))
+      → P (served (encode base (with_status t (pseudo_committed (pseudo_committed_count s)) s))
+      (outcome finished list [])))
       → P (finish_active base s t list)
   finish_by P cyclic free dependent = by (which s t)
     where

@@ -1,5 +1,6 @@
 -- Ranks are 0, 1, 2 and on, as many as there are pseudo-committed transactions, and stay so when one has ended.
-use Rattle.std.specs.Prelude.{ℕ, zero, suc, ◌+◌, ◌-◌, ◌<◌, ◌≤◌, ◌≡◌, refl, true, false, cond, ◌↔◌, List, [], ◌∷◌, map, ltb, length, get_or, set}
+use Rattle.std.specs.Prelude.{ℕ, zero, suc, ◌+◌, ◌-◌, ◌<◌, ◌≤◌, ◌≡◌, refl, true, false, cond, ◌↔◌, List, [], ◌∷◌, map}
+use Rattle.std.specs.Prelude.{ltb, length, get_or, set}
 use Rattle.std.proofs.Common.{sym, ap, ◌∙◌, not-suc-le-zero, lt_of_not-le, arith, ltb-true, ltb-false, lt-ltb, le-ltb}
 use Rattle.operations.proofs.Laws.Cases.{split, same}
 use Rattle.store.specs.Store.{Status, absent, active, pseudo_committed, Store, status_of, Active, PseudoCommitted}
@@ -86,7 +87,8 @@ module _ (s : Store) (t : ℕ) where
 
   remains : (u r : ℕ) → status_of left u ≡ pseudo_committed r → (u ≡ t → ⊥) × (status_of s u ≡ pseudo_committed r)
   remains u r e =
-      same u t (λ q. absurd (absent_unranked r (sym (status_removed (dropped t s) t) ∙ ap (status_of left) (sym q) ∙ e)))
+      same u t (λ q. absurd (absent_unranked r (sym (status_removed (dropped t s) t) ∙ ap (status_of left) (sym q)
+      ∙ e)))
       (λ other. (other, sym (status_other (dropped t s) t absent u other) ∙ e))
 
   another : (status : Status) → status_of s t ≡ status → (u r : ℕ) → status_of s u ≡ pseudo_committed (raised status r)
@@ -180,7 +182,8 @@ module _ (s : Store) (t : ℕ) where
 
 -- ---- Ranks are the numbers below that
 
-some_counted : (l : List Status) → 0 < pseudo_committed_in l → (t rank : ℕ) × (get_or l t absent ≡ pseudo_committed rank)
+some_counted : (l : List Status) → 0 < pseudo_committed_in l → (t rank : ℕ) × (get_or l t absent
+    ≡ pseudo_committed rank)
 some_counted [] p = absurd (not-suc-le-zero p)
 some_counted (absent ∷ l) p = let w = some_counted l p in (suc w.0, w.1, w.2)
 some_counted (active ∷ l) p = let w = some_counted l p in (suc w.0, w.1, w.2)

@@ -1,6 +1,8 @@
 -- What is known where no reason for saying no applies, for each call.
-use Rattle.std.specs.Prelude.{ℕ, zero, suc, ◌+◌, ◌-◌, ◌%◌, ◌≤◌, ◌<◌, ◌≡◌, refl, Bool, true, false, cond, not, ◌&&◌, ◌↔◌, ◌⊎◌, List, [], ◌∷◌, ◌++◌, map, eqb, ltb, leb, length}
-use Rattle.std.proofs.Common.{sym, ap, ◌∙◌, subst, true≢false, inl, inr, ⊎_elim, append-nil, arith, eq-eqb, ne_eqb, lt-ltb, le-ltb, eqb-true, ltb-true, ltb-false, leb-true, leb-false}
+use Rattle.std.specs.Prelude.{ℕ, zero, suc, ◌+◌, ◌-◌, ◌%◌, ◌≤◌, ◌<◌, ◌≡◌, refl, Bool, true, false, cond, not, ◌&&◌, ◌↔◌}
+use Rattle.std.specs.Prelude.{◌⊎◌, List, [], ◌∷◌, ◌++◌, map, eqb, ltb, leb, length}
+use Rattle.std.proofs.Common.{sym, ap, ◌∙◌, subst, true≢false, inl, inr, ⊎_elim, append-nil, arith, eq-eqb, ne_eqb}
+use Rattle.std.proofs.Common.{lt-ltb, le-ltb, eqb-true, ltb-true, ltb-false, leb-true, leb-false}
 use Rattle.std.proofs.Math.Bool.{decide_iff, and-eq-true_iff}
 use Rattle.std.proofs.lemmas.Bool.{false≢true, lt-leb, eqb-false, not-true, not-false}
 use mathlib.Mathlib.Data.Bool.Basic.{or-eq-false-eq-eq-false-and-eq-false}
@@ -22,7 +24,8 @@ use Rattle.store.specs.Soundness.{Sound}
 use Rattle.store.proofs.Laws.Words.{below, each}
 use Rattle.protocol.specs.Replies.{refused, outcome, Served, served}
 use Rattle.protocol.specs.Calls.{wrong_length, list_too_short, some_above, bad_kinds, unsound, above_last, is_live}
-use Rattle.protocol.specs.Calls.{already_live, is_active, not_active, is_none, without_kind, is_of, not_of_kind, log_full}
+use Rattle.protocol.specs.Calls.{already_live, is_active, not_active, is_none, without_kind, is_of, not_of_kind}
+use Rattle.protocol.specs.Calls.{log_full}
 use Rattle.protocol.specs.Calls.{LentOperation, operations_in, no_room, too_many, own_reasons, first, unless, request}
 use Rattle.protocol.specs.Calls.{requested, run, limits, set_up_reason, begin_reason, batch_reason, operate_reason}
 use Rattle.protocol.specs.Calls.{end_reason, contents_reason}
@@ -227,7 +230,8 @@ module _ (format : Format) (k v : ℕ) where
       (stored format.reduce number k v ≡ some (request format number k v))
       × (kind_of (request format number k v) ≡ kind)
 
-  named_by : (kind : Kind) (number : ℕ) → first_number kind ≤ number → number ≤ last_number kind → NamesCount kind number
+  named_by : (kind : Kind) (number : ℕ) → first_number kind ≤ number → number ≤ last_number kind
+      → NamesCount kind number
   named_by Stack number l m =
       let e : 1 + (number - 1) ≡ number = omega arith in
       subst (NamesCount Stack) e (each (λ i. NamesCount Stack (1 + i)) 3
@@ -415,7 +419,8 @@ module _ (format : Format) where
     pub begin_accepted : (t : ℕ) → begin_reason format whether_sound w t ≡ 0 → BeginAccepted format w t
     begin_accepted t e =
         let none =
-        (none_applies ((1, wrong_length w) ∷ (4, unsound whether_sound w) ∷ (5, above_last t) ∷ (6, already_live s t) ∷ [])
+        (none_applies ((1, wrong_length w) ∷ (4, unsound whether_sound w) ∷ (5, above_last t) ∷ (6, already_live s t)
+        ∷ [])
         refl).0 e in
         record {
           words = right_length w none.0;
@@ -721,7 +726,8 @@ module _ (format : Format) where
           each = (record { named = a.named; kind = a.kind; entries = a.entries; room = a.room }, tt);
         })
 
-    pub end_accepts : (t : ℕ) (list : List ℕ) → EndAccepted format w t list → end_reason format whether_sound w t list ≡ 0
+    pub end_accepts : (t : ℕ) (list : List ℕ) → EndAccepted format w t list → end_reason format whether_sound w t list
+        ≡ 0
     end_accepts t list a =
         (none_applies (
         (1, wrong_length w) ∷ (2, list_too_short list) ∷ (4, unsound whether_sound w) ∷ (5, above_last t)

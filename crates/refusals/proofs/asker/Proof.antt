@@ -27,7 +27,8 @@ past_number c rest =
     let inside = c in
     let called = inside in
     past_last (book (start c)) called.if-book-ne-WORDS.false called.sound.ensures
-    (ap not inside.if-not-sound.false) _ inside.if-transaction-gt-LAST_TRANSACTION.false (passed 12 c.if-many.false rest)
+    (ap not inside.if-not-sound.false) _ inside.if-transaction-gt-LAST_TRANSACTION.false
+    (passed 12 c.if-many.false rest)
 
 wrong_length_lem : tie.Need-returns-then-book-ne-WORDS
 wrong_length_lem c = applies _ _ (other_length (book c.before.before) c.if-book-ne-WORDS.true)
@@ -55,7 +56,8 @@ not_open : tie.Need-returns-then-status_word-ne-ACTIVE
 not_open c =
     let past = c.before.before in
     past_number past
-    (applies _ _ (not_active_lem (book (start past)) _ _ past.if-transaction-gt-LAST_TRANSACTION.false c.status_word.ensures
+    (applies _ _ (not_active_lem (book (start past)) _ _ past.if-transaction-gt-LAST_TRANSACTION.false
+    c.status_word.ensures
     c.if-status_word-ne-ACTIVE.true))
 
 accepted : tie.Need-returns

@@ -26,7 +26,8 @@ abbrev lent : tie.Start → List ℕ
 lent c = c.args.operations.now
 
 asked : (c : tie.After-asker-asker_reason)
-    → c.asker-asker_reason.result ≡ first (asker_reasons (w (begin c)) (begin c).args.transaction (too_many (lent (begin c))))
+    → c.asker-asker_reason.result ≡ first (asker_reasons (w (begin c)) (begin c).args.transaction (too_many (lent
+    (begin c))))
 asked c =
     c.asker-asker_reason.ensures
     ∙ ap (λ (b : Bool). first (asker_reasons (w (begin c)) (begin c).args.transaction b))
@@ -44,10 +45,12 @@ past_both : (c : tie.Else-own_reason-ne-ACCEPTED) {r : ℕ} → let start = begi
 past_both c =
     let past = c in
     let start = begin past.before.before.before in
-    limited (w start) start.args.transaction (lent start) _ (asked past.before.before.before) past.if-asker_reason-ne-ACCEPTED.false _
+    limited (w start) start.args.transaction (lent start) _ (asked past.before.before.before)
+    past.if-asker_reason-ne-ACCEPTED.false _
     c.first_own-own_reason.ensures c.if-own_reason-ne-ACCEPTED.false
 
-past_log : (c : tie.Else-entry_count-count-gt-ENTRIES) {r : ℕ} → let start = begin c.before.before.before.before.before in
+past_log : (c : tie.Else-entry_count-count-gt-ENTRIES) {r : ℕ} → let start = begin c.before.before.before.before.before
+    in
     r ≡ first (row_limits start.args.transaction (w start) (lent start))
     → r ≡ batch_reason base whether_sound (w start) start.args.transaction (lent start)
 past_log c e =
@@ -69,7 +72,8 @@ own_reason : tie.Need-returns-then-own_reason-ne-ACCEPTED
 own_reason c =
     let past = c in
     let start = begin past.before.before.before in
-    own_refuses (w start) start.args.transaction (lent start) _ (asked past.before.before.before) past.if-asker_reason-ne-ACCEPTED.false _
+    own_refuses (w start) start.args.transaction (lent start) _ (asked past.before.before.before)
+    past.if-asker_reason-ne-ACCEPTED.false _
     c.first_own-own_reason.ensures c.if-own_reason-ne-ACCEPTED.true
 
 entry_count_requires : tie.Need-entry_count-requires
@@ -95,7 +99,8 @@ fits_requires c κs =
     let past = opened.before.before.before.before in
     let start = begin past.before in (
       is_sound past,
-      own_silent (w start) start.args.transaction (lent start) _ (asked past.before) past.if-asker_reason-ne-ACCEPTED.false _
+      own_silent (w start) start.args.transaction (lent start) _ (asked past.before)
+          past.if-asker_reason-ne-ACCEPTED.false _
           opened.first_own-own_reason.ensures opened.if-own_reason-ne-ACCEPTED.false,
     )
 

@@ -34,7 +34,8 @@ live c =
     let w = book s.before.before.before.before.before.before.before in
     past_last w s.if-book-ne-WORDS.false s.sound.ensures (ap not s.if-not-sound.false) _
     c.if-transaction-gt-LAST_TRANSACTION.false
-    (applies _ _ (already_live_lem w _ _ c.if-transaction-gt-LAST_TRANSACTION.false c.status_word.ensures c.if-status_word-ne-ABSENT.true))
+    (applies _ _ (already_live_lem w _ _ c.if-transaction-gt-LAST_TRANSACTION.false c.status_word.ensures
+    c.if-status_word-ne-ABSENT.true))
 
 accepted : tie.Need-returns
 accepted c =
@@ -42,8 +43,10 @@ accepted c =
     let w = book s.before.before.before.before.before.before.before in
     past_last w s.if-book-ne-WORDS.false s.sound.ensures (ap not s.if-not-sound.false) _
     c.if-transaction-gt-LAST_TRANSACTION.false
-    (passed _ (not_live w _ _ c.if-transaction-gt-LAST_TRANSACTION.false c.status_word.ensures c.if-status_word-ne-ABSENT.false) refl)
+    (passed _ (not_live w _ _ c.if-transaction-gt-LAST_TRANSACTION.false c.status_word.ensures
+    c.if-status_word-ne-ABSENT.false) refl)
 
 pub begin_spec : {M : Type 1} → statement M
 begin_spec =
-    tie.close (tie.spec wrong_length_lem (λ c κs. search rules) unsound above_last_lem (λ c κs. search rules) live accepted)
+    tie.close (tie.spec wrong_length_lem (λ c κs. search rules) unsound above_last_lem
+    (λ c κs. search rules) live accepted)

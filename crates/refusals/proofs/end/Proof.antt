@@ -75,4 +75,5 @@ accepted c list e =
     c.status_word.ensures c.if-status_word-ne-ACTIVE.false) refl)
 
 pub end_spec : {M : Type 1} → statement M
-end_spec = tie.close (tie.spec wrong_length_lem too_short unsound above_last_lem (λ c κs. search rules) not_open accepted)
+end_spec = tie.close (tie.spec wrong_length_lem too_short unsound above_last_lem
+    (λ c κs. search rules) not_open accepted)

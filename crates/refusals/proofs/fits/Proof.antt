@@ -26,7 +26,8 @@ in_loop c = c.before.before.before
 abbrev begin : tie.In-loop-i invariant_loop decreases_loop → tie.Start invariant_loop decreases_loop
 begin c = c.before.before.before.before
 
-abbrev asked : tie.After-needed_before invariant_loop decreases_loop → tie.After-rows_needed invariant_loop decreases_loop
+abbrev asked : tie.After-needed_before invariant_loop decreases_loop → tie.After-rows_needed invariant_loop
+    decreases_loop
 asked c = c.before.before.before.before
 
 used_requires : tie.Need-used-used-requires invariant_loop decreases_loop
@@ -82,7 +83,8 @@ loop_again c =
       ⊎_elim
           (λ v. room_found l w i within left (v.used-used.ensures ∙ ap (base.used (decode base w)) v.wide.ensures)
           v.needed_before.ensures.0
-          (lt-leb 64 _ v.if-used-needed_before-ge-ROWS.false)) (λ v. room_unneeded l w i within left c.rows_needed.ensures v.if-rows_needed-eq1.false)
+          (lt-leb 64 _ v.if-used-needed_before-ge-ROWS.false)) (λ v. room_unneeded l w i within left
+          c.rows_needed.ensures v.if-rows_needed-eq1.false)
           c.if-rows_needed-eq1.branch-raw,
     )
 

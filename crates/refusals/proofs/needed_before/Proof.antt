@@ -26,7 +26,14 @@ add_needed c =
     let in_loop = c in
     let start = in_loop in
     let few = needed_few (word start.args.operations.now (4 * in_loop.loop-i.i + 1)) in
-    omega (arith, in_loop.loop-i.invariant.1, in_loop.loop-i-test.true, c.rows_needed-needed.ensures, few, start.requires)
+    omega (
+      arith,
+      in_loop.loop-i.invariant.1,
+      in_loop.loop-i-test.true,
+      c.rows_needed-needed.ensures,
+      few,
+      start.requires,
+    )
 
 loop_again : tie.Need-loop-i-preserved invariant_loop decreases_loop
 loop_again c =
@@ -42,7 +49,8 @@ loop_again c =
       omega (arith, in_loop.loop-i-test.true),
       omega (arith, loop.invariant.1, w.rows_needed-needed.ensures, few),
       ap (λ (n : ℕ). n + w.rows_needed-needed.result) loop.invariant.2
-          ∙ sym (needed_own l start.args.object loop.i within w.if-operations-start.true w.rows_needed-needed.result w.rows_needed-needed.ensures),
+          ∙ sym (needed_own l start.args.object loop.i within w.if-operations-start.true w.rows_needed-needed.result
+          w.rows_needed-needed.ensures),
     ))
     (λ w.
     rw w.needed-is (

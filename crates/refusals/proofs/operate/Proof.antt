@@ -29,7 +29,8 @@ lent c k v = c.args.object ∷ c.args.number ∷ k ∷ v ∷ []
 is_sound : (c : tie.Else-asker_reason-ne-ACCEPTED) → Sound base (book c.before.before.before)
 is_sound c =
     let start = c.before.before.before in
-    asker_sound (book start) start.args.transaction (lent start 0 0) _ c.asker-asker_reason.ensures c.if-asker_reason-ne-ACCEPTED.false
+    asker_sound (book start) start.args.transaction (lent start 0 0) _ c.asker-asker_reason.ensures
+    c.if-asker_reason-ne-ACCEPTED.false
 
 -- The limits are left.
 past_both : (c : tie.Else-own_reason-ne-ACCEPTED) (k v : ℕ) {r : ℕ}
@@ -52,7 +53,8 @@ past_log c =
 refused : tie.Need-returns-then-asker_reason-ne-ACCEPTED
 refused c k v =
     let start = c.before.before.before in
-    asker_refuses (book start) start.args.transaction (lent start k v) _ c.asker-asker_reason.ensures c.if-asker_reason-ne-ACCEPTED.true
+    asker_refuses (book start) start.args.transaction (lent start k v) _ c.asker-asker_reason.ensures
+    c.if-asker_reason-ne-ACCEPTED.true
 
 own_requires : tie.Need-own-own_reason-requires
 own_requires c κs = (is_sound c).packed
@@ -82,7 +84,8 @@ used_requires c κs =
       subst (λ (n : ℕ). n < 16) (sym c.wide-at.ensures)
           (lent_below (lent begin 0 0) (book begin)
           (own_silent (book begin) begin.args.transaction (lent begin 0 0) _ asked.asker-asker_reason.ensures
-          asked.if-asker_reason-ne-ACCEPTED.false _ past.own-own_reason.ensures past.if-own_reason-ne-ACCEPTED.false) 0 (omega arith)),
+          asked.if-asker_reason-ne-ACCEPTED.false _ past.own-own_reason.ensures past.if-own_reason-ne-ACCEPTED.false) 0
+          (omega arith)),
     )
 
 -- What is used by the object is counted at the same number.
@@ -114,7 +117,8 @@ accepted c k v =
     (passed _ (⊎_elim
     (λ w. has_room s a.object a.number k v
     (w.used.ensures ∙ ap (base.used s) c.wide-at.ensures) (lt-leb 64 _ w.if-used-ge-ROWS.false))
-    (λ w. needs_none s a.object a.number k v asked.rows_needed.ensures w.if-rows_needed-eq1.false) c.else-rows_needed-eq1.branch-raw) refl))
+    (λ w. needs_none s a.object a.number k v asked.rows_needed.ensures w.if-rows_needed-eq1.false)
+    c.else-rows_needed-eq1.branch-raw) refl))
 
 pub operate_spec : {M : Type 1} → statement M
 operate_spec =

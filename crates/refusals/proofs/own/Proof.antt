@@ -18,7 +18,8 @@ start c = c.before.before.before.before.before
 
 -- ---- Past each test
 
-past_kind : (c : tie.Else-kind-eq-NONE) → calls.without_kind (decode base (book (start c))) (start c).args.object ≡ false
+past_kind : (c : tie.Else-kind-eq-NONE) → calls.without_kind (decode base (book (start c))) (start c).args.object
+    ≡ false
 past_kind c =
     has_kind (book (start c)) _ _ _ c.if-object-gt-LAST_OBJECT.false c.wide.ensures
     c.object_kind-kind.ensures (start c).requires c.if-kind-eq-NONE.false
@@ -42,10 +43,12 @@ of_no_kind c =
     c.wide.ensures c.object_kind-kind.ensures c.if-kind-eq-NONE.true)
 
 of_another_kind : tie.Need-returns-then-not-is_of
-of_another_kind c = passed _ (past_kind c.before.before) (applies _ _ (of_kind_lem c.before ∙ ap not c.if-not-is_of.true))
+of_another_kind c = passed _ (past_kind c.before.before) (applies _ _ (of_kind_lem c.before
+    ∙ ap not c.if-not-is_of.true))
 
 of_its_kind : tie.Need-returns
-of_its_kind c = passed _ (past_kind c.before.before) (passed _ (of_kind_lem c.before ∙ ap not c.if-not-is_of.false) refl)
+of_its_kind c = passed _ (past_kind c.before.before) (passed _ (of_kind_lem c.before
+    ∙ ap not c.if-not-is_of.false) refl)
 
 pub own_spec : {M : Type 1} → statement M
 own_spec =

@@ -15,7 +15,8 @@ bad_kinds_lem : (c : tie.Joined-then-kinds-ne-OBJECTS) → bad_kinds c.args.kind
 bad_kinds_lem c =
     let kinds = c.args.kinds.now in
     ⊎_elim (λ w. bad_number kinds w.if-kinds-ne-OBJECTS.true)
-    (λ w. right_number kinds w.if-kinds-ne-OBJECTS.false ∙ sym w.some_above.ensures ∙ w.if-some_above.true) c.then-kinds-ne-OBJECTS.branch-raw
+    (λ w. right_number kinds w.if-kinds-ne-OBJECTS.false ∙ sym w.some_above.ensures
+    ∙ w.if-some_above.true) c.then-kinds-ne-OBJECTS.branch-raw
 
 bad : tie.Need-returns-then-kinds-ne-OBJECTS
 bad c =

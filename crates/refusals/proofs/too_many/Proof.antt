@@ -1,4 +1,4 @@
--- `refusals::too_many_lem`: the two tests.
+-- `refusals::too_many`: the two tests.
 use mathlib.Core.Path.{refl}
 use borrow.Author.Rules.{rules}
 use borrow.Author.Tests.{lt-ltb, le-ltb}

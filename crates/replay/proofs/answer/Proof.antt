@@ -38,7 +38,8 @@ lookup_requires c κs = c.requires.1 (omega (arith, c.in-9.is))
 present_requires_2 : tie.Need-present-requires-in-5
 present_requires_2 c κs =
     c.requires.1
-    (⊎_elim (λ w. ⊎_elim (λ e. omega arith) (λ e. omega arith) w.in-8-1.keys2) (λ w. w.if-number-lt4-1.false) c.in-5-1.branch-raw)
+    (⊎_elim (λ w. ⊎_elim (λ e. omega arith) (λ e. omega arith) w.in-8-1.keys2) (λ w. w.if-number-lt4-1.false)
+    c.in-5-1.branch-raw)
 
 returns : tie.Need-returns-in-1
 returns c = answer_done (asked c.before.before) (filled c.before.before) c.in-1.is
@@ -78,7 +79,8 @@ returns_7 c =
     let arm = c in
     let start = arm.before.before in
     let rest = arm.in_default.in_default-own.rest in
-    answer_above (asked start) (filled start) rest.0.0.0.1 rest.0.0.1 rest.0.1 rest.1 c.in_default.if-number-lt7-own.false
+    answer_above (asked start) (filled start) rest.0.0.0.1 rest.0.0.1 rest.0.1 rest.1
+    c.in_default.if-number-lt7-own.false
 
 returns_8 : tie.Need-returns-in-5
 returns_8 c =
@@ -87,7 +89,8 @@ returns_8 c =
     ∙ ap flag c.present-in-5.ensures
     ∙ ⊎_elim
     (λ w. answer_present (asked start) (filled start) w.in-8-1.keys2)
-    (λ w. answer_present_set (asked start) (filled start) w.in_default-1.rest.0.0.0.0.1 w.if-number-lt4-1.false w.if-number-lt7-1.true)
+    (λ w. answer_present_set (asked start) (filled start) w.in_default-1.rest.0.0.0.0.1 w.if-number-lt4-1.false
+    w.if-number-lt7-1.true)
     c.in-5-1.branch-raw
 
 pub answer_spec : {M : Type 1} → statement M

@@ -1,5 +1,6 @@
 -- Copies of rows: what is read in one, and what one holds after the stores of replay.
-use Rattle.std.specs.Prelude.{ℕ, ◌+◌, ◌-◌, ◌<◌, ◌≤◌, ◌≡◌, refl, true, false, List, [], ◌∷◌, ◌++◌, map, eqb, length, get_or, take, set}
+use Rattle.std.specs.Prelude.{ℕ, ◌+◌, ◌-◌, ◌<◌, ◌≤◌, ◌≡◌, refl, true, false, List, [], ◌∷◌, ◌++◌, map, eqb, length}
+use Rattle.std.specs.Prelude.{get_or, take, set}
 use Rattle.std.proofs.Common.{ap, sym, ◌∙◌, arith, length-set, length-take, length-take-le, take-take}
 use Rattle.std.proofs.lemmas.List.{length-map}
 use Rattle.std.proofs.Math.ListN.{get_or-map}
@@ -46,13 +47,15 @@ top_some (p ∷ ps) h =
     let e : length (p ∷ ps) - 1 ≡ length ps = omega arith in
     let last : get_or (p ∷ ps) (length (p ∷ ps) - 1) [] ≡ get_or (p ∷ ps) (length ps) p =
     rw e (get_d_default (p ∷ ps) (length ps) [] p (omega arith)) in
-    let top : get_or (map row_of (p ∷ ps)) (length (map row_of ps)) (row_of p) ≡ row_of (get_or (p ∷ ps) (length ps) p) =
+    let top : get_or (map row_of (p ∷ ps)) (length (map row_of ps)) (row_of p) ≡ row_of (get_or (p ∷ ps)
+    (length ps) p) =
     rw length-map (get_or-map row_of (p ∷ ps) (length ps) p) in
     ap (λ q. answering 1 (get_or q 0 0)) last ∙ ap (λ r. answering 1 r.key) (sym top)
 
 -- ---- Storing
 
-held : (copy pairs : List (List ℕ)) (n : ℕ) → take n copy ≡ pairs → length pairs ≡ n → BeginsWith copy (map row_of pairs)
+held : (copy pairs : List (List ℕ)) (n : ℕ) → take n copy ≡ pairs → length pairs ≡ n → BeginsWith copy
+    (map row_of pairs)
 held copy pairs n e l = ap (λ m. map row_of (take m copy)) (length-map pairs row_of ∙ l) ∙ ap (map row_of) e
 
 -- A copy that is left as it is, whatever its length.
@@ -88,7 +91,8 @@ module _ (rows : List (List ℕ)) (count : ℕ) (fits : count ≤ length rows) w
       → BeginsWith (set rows count pair) (rows_of rows count ++ (row_of pair ∷ []))
   pushed pair h =
       let last : put_at count (row_of pair) (rows_of rows count) ≡ rows_of rows count ++ (row_of pair ∷ []) =
-      ap (λ n. put_at n (row_of pair) (rows_of rows count)) (sym count_rows) ∙ put_last_lem (rows_of rows count) (row_of pair)
+      ap (λ n. put_at n (row_of pair) (rows_of rows count)) (sym count_rows) ∙ put_last_lem (rows_of rows count)
+      (row_of pair)
       in
       rw (← last) (put (set rows count pair) count pair (opened_end rows count pair [] h))
 

@@ -1,6 +1,9 @@
 -- A list with an element put in at a place, or left out: as loops do it, its length, and what a map makes of it.
-use Rattle.std.specs.Prelude.{ℕ, zero, suc, ◌+◌, ◌-◌, ◌<◌, ◌≤◌, ◌≡◌, refl, List, [], ◌∷◌, ◌++◌, map, length, get_or, take, set}
-use Rattle.std.proofs.Common.{ap, sym, ◌∙◌, append-nil, not-suc-le-zero, le_of_suc-le-suc, add-one, arith, length-append, length-take, length-drop, drop_of_length-le, length-take-le, take-take, take-suc-set, get_or-take}
+use Rattle.std.specs.Prelude.{ℕ, zero, suc, ◌+◌, ◌-◌, ◌<◌, ◌≤◌, ◌≡◌, refl, List, [], ◌∷◌, ◌++◌, map, length, get_or}
+use Rattle.std.specs.Prelude.{take, set}
+use Rattle.std.proofs.Common.{ap, sym, ◌∙◌, append-nil, not-suc-le-zero, le_of_suc-le-suc, add-one, arith}
+use Rattle.std.proofs.Common.{length-append, length-take, length-drop, drop_of_length-le, length-take-le, take-take}
+use Rattle.std.proofs.Common.{take-suc-set, get_or-take}
 use Rattle.std.proofs.Math.Seq.{take-set-lt}
 use Rattle.replay.specs.Replay.{put_at, removed_at}
 

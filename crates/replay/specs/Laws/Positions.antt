@@ -1,6 +1,8 @@
 -- Rows by the position of a key: what is found there, and what inserting, deleting and modifying do there.
-use Rattle.std.specs.Prelude.{ℕ, ◌+◌, ◌-◌, ◌<◌, ◌≤◌, ◌≡◌, refl, ◌⊎◌, true, false, List, [], ◌∷◌, map, eqb, length, get_or, set, drop}
-use Rattle.std.proofs.Common.{ap, sym, ◌∙◌, inl, inr, ⊎_elim, true≢false, add-one, arith, eq-eqb, ne_eqb, length-set, drop_of_length-le, drop-cons}
+use Rattle.std.specs.Prelude.{ℕ, ◌+◌, ◌-◌, ◌<◌, ◌≤◌, ◌≡◌, refl, ◌⊎◌, true, false, List, [], ◌∷◌, map, eqb, length}
+use Rattle.std.specs.Prelude.{get_or, set, drop}
+use Rattle.std.proofs.Common.{ap, sym, ◌∙◌, inl, inr, ⊎_elim, true≢false, add-one, arith, eq-eqb, ne_eqb, length-set}
+use Rattle.std.proofs.Common.{drop_of_length-le, drop-cons}
 use Rattle.std.proofs.Math.Option.{none, some}
 use Rattle.operations.specs.Operations.{Row, row, found, is_some, present, inserted, deleted, modified}
 use Rattle.operations.proofs.Laws.Rows.{order, by_order_less, by_order_equal, by_order_greater}
@@ -135,7 +137,8 @@ module _ (k : ℕ) (pairs : List (List ℕ)) (i : ℕ) where
       → i + 1 + position_of k (map row_of (drop (i + 1) pairs)) ≡ i + position_of k (map row_of (drop i pairs))
   scan_on h l = rw (drop-cons pairs i [] h, by_order_less _ _ _ l, add-one i) (omega arith)
 
-  pub scan_found : i < length pairs → k ≤ get_or (get_or pairs i []) 0 0 → i + position_of k (map row_of (drop i pairs)) ≡ i
+  pub scan_found : i < length pairs → k ≤ get_or (get_or pairs i []) 0 0 → i + position_of k (map row_of (drop i pairs))
+      ≡ i
   scan_found h g =
       rw (drop-cons pairs i [] h)
       (order (get_or (get_or pairs i []) 0 0) k

@@ -28,12 +28,24 @@ pub loop-i-preserved : goal.loop-i-preserved
 loop-i-preserved c =
     let put = c.put_answer-end.ensures in (
       omega (arith, c.loop-i-test.true),
-      answers_turn c.loop-i.invariant.1 (omega (arith, c.loop-i.invariant.0, c.requires.0, c.requires.1, c.well_formed.1.1.0.1.0.1)) _ (omega (arith, c.loop-i-test.true, c.requires.1))
+      answers_turn c.loop-i.invariant.1 (omega (
+        arith,
+        c.loop-i.invariant.0,
+        c.requires.0,
+        c.requires.1,
+        c.well_formed.1.1.0.1.0.1,
+      )) _ (omega (arith, c.loop-i-test.true, c.requires.1))
           put.0 put.1,
     )
 
 pub shape_of-out : goal.shape_of-out
-shape_of-out c = answers_kept c.loop-i.invariant.1 (omega (arith, c.loop-i.invariant.0, c.requires.0, c.requires.1, c.well_formed.1.1.0.1.0.1))
+shape_of-out c = answers_kept c.loop-i.invariant.1 (omega (
+  arith,
+  c.loop-i.invariant.0,
+  c.requires.0,
+  c.requires.1,
+  c.well_formed.1.1.0.1.0.1,
+))
 
 pub returns : goal.returns
 returns c =

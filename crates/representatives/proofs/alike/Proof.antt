@@ -40,7 +40,8 @@ plain c =
     let logged = requested.before in
     let test = logged.before in (
       sym test.entry_object.ensures ∙ (test.if-entry_object.false ∙ test.entry_object-2.ensures),
-      sym logged.entry_operation-logged.ensures.1 ∙ (c.if-logged-requested.false ∙ requested.entry_operation-requested.ensures.1),
+      sym logged.entry_operation-logged.ensures.1 ∙ (c.if-logged-requested.false
+          ∙ requested.entry_operation-requested.ensures.1),
     )
 
 returns_3 : tie.Need-returns-then-not-valued

@@ -1,6 +1,7 @@
 -- Chains of entries: the latest of each, and the way back along one.
 use Rattle.std.specs.Prelude.{ℕ, ◌+◌, ◌-◌, ◌<◌, ◌≡◌, refl, Bool, true, false, List, ltb, get_or, set, replicate}
-use Rattle.std.proofs.Common.{sym, subst, subst₂, ◌∙◌, arith, ltb-true, ltb-false, length-set, get_or-set_same, get_or-set_other}
+use Rattle.std.proofs.Common.{sym, subst, subst₂, ◌∙◌, arith, ltb-true, ltb-false, length-set, get_or-set_same}
+use Rattle.std.proofs.Common.{get_or-set_other}
 use Rattle.std.proofs.lemmas.List.{length-replicate, get_or-replicate}
 use Rattle.operations.proofs.Laws.Cases.{split, same}
 use Rattle.representatives.specs.Representatives.{AlikeBy, FirstBy, RepresentativeBy, DownTo, Latest, slot_of}
@@ -71,7 +72,8 @@ module _ (valued : Bool) (w : List ℕ) where
           before = λ j m q f.
               same j i
               (λ (e : j ≡ i).
-              rw (e, get_or-set_same links (i + 1) (get_or heads s 0) 0 (omega (arith, c.entries)), ← own) (c.latest s l))
+              rw (e, get_or-set_same links (i + 1) (get_or heads s 0) 0 (omega (arith, c.entries)), ← own)
+              (c.latest s l))
               (λ (e : j ≡ i → ⊥).
               rw (get_or-set_other links (i + 1) (j + 1) (get_or heads s 0) 0 (λ q. e (omega arith)))
               (c.before j (omega arith) q f));

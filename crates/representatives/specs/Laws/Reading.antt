@@ -29,5 +29,6 @@ module _ (w : List ℕ) where
         objects = λ i l. kind_below base w (entry_object w i) (kind_of (operation_at w i)) (of_kind_lem fits i l);
         kinds = λ i j l m e.
             some-injective (kind_of (operation_at w j)) (kind_of (operation_at w i))
-            (sym (of_kind_lem fits j m) ∙ (ap (λ (o : ℕ). (object_of (decode base w) o).kind) e ∙ of_kind_lem fits i l));
+            (sym (of_kind_lem fits j m) ∙ (ap (λ (o : ℕ). (object_of (decode base w) o).kind) e
+            ∙ of_kind_lem fits i l));
       }

@@ -1,6 +1,8 @@
 -- A record that was read, and what the desk gives for its call: as the code has them.
-use Rattle.std.specs.Prelude.{ℕ, suc, ◌+◌, ◌-◌, ◌≤◌, ◌<◌, ◌≡◌, refl, Bool, true, false, ◌↔◌, List, [], ◌∷◌, length, get_or, take, drop}
-use Rattle.std.proofs.Common.{sym, ap, ◌∙◌, subst, true≢false, append-nil, arith, eqb-true, length-append, length-drop, take_at, get_or-drop}
+use Rattle.std.specs.Prelude.{ℕ, suc, ◌+◌, ◌-◌, ◌≤◌, ◌<◌, ◌≡◌, refl, Bool, true, false, ◌↔◌, List, [], ◌∷◌, length}
+use Rattle.std.specs.Prelude.{get_or, take, drop}
+use Rattle.std.proofs.Common.{sym, ap, ◌∙◌, subst, true≢false, append-nil, arith, eqb-true, length-append, length-drop}
+use Rattle.std.proofs.Common.{take_at, get_or-drop}
 use Rattle.std.proofs.Math.Option.{Option, none, some}
 use Rattle.operations.proofs.Laws.Cases.{split}
 use Rattle.protocol.specs.Call.{Call}

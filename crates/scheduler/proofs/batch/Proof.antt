@@ -36,7 +36,8 @@ waits c =
     let past = scanned in
     let a = (start past.before.before.before.before.before).args in
     leaves_waiting a.book.now a.transaction a.operations.now _ past.batch-reason.ensures
-    past.if-reason-ne-ACCEPTED.false _ scanned.owners-owners.ensures c.unanswered-then-owners-ne0.result _ c.unanswered-then-owners-ne0.ensures
+    past.if-reason-ne-ACCEPTED.false _ scanned.owners-owners.ensures c.unanswered-then-owners-ne0.result _
+    c.unanswered-then-owners-ne0.ensures
     sized.if-owners-ne0.true
     sized.size.ensures
 
@@ -53,7 +54,8 @@ answers c =
     let past = scanned in
     let a = (start past.before.before.before.before.before.before.before).args in
     leaves_answered a.book.now a.transaction a.operations.now _ past.batch-reason.ensures
-    past.if-reason-ne-ACCEPTED.false _ scanned.owners-owners.ensures passed.if-owners-ne0.false entered.enter_each.result _
+    past.if-reason-ne-ACCEPTED.false _ scanned.owners-owners.ensures passed.if-owners-ne0.false
+    entered.enter_each.result _
     entered.enter_each.ensures.0 entered.enter_each.ensures.1
 
 pub batch_spec : {M : Type 1} → statement M

@@ -21,7 +21,8 @@ refused : tie.Need-returns-then-reason-ne-ACCEPTED
 refused c =
     let start = c.before.before.before in
     ap (λ (s : Served). s.outcome.reply)
-    (contents_refused start.args.book.now start.args.object _ c.before.contents-reason.ensures c.if-reason-ne-ACCEPTED.true)
+    (contents_refused start.args.book.now start.args.object _ c.before.contents-reason.ensures
+    c.if-reason-ne-ACCEPTED.true)
 
 is_accepted : (c : tie.Else-reason-ne-ACCEPTED) → ContentsAccepted base (start c).args.book.now (start c).args.object
 is_accepted c =
@@ -59,7 +60,8 @@ served c =
     let w = (start past).args.book.now in
     let o = (start past).args.object in
     ap counted (rows c ∙ sym (rows_counted w o (within past)))
-    ∙ ap (λ (s : Served). s.outcome.reply) (contents_served w o _ past.before.contents-reason.ensures past.if-reason-ne-ACCEPTED.false)
+    ∙ ap (λ (s : Served). s.outcome.reply) (contents_served w o _ past.before.contents-reason.ensures
+    past.if-reason-ne-ACCEPTED.false)
 
 pub contents_count_spec : {M : Type 1} → statement M
 contents_count_spec =

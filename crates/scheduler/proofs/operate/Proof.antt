@@ -61,7 +61,8 @@ waits c =
     operate_waits a.book.now a.transaction a.object a.operation a.key a.value _
     (past.operate-reason.ensures a.key a.value)
     past.if-reason-ne-ACCEPTED.false
-    _ _ (scanned.owners-owners.ensures (requested past) asked.request-requested.ensures) c.if-owners-ne0.true c.size.ensures
+    _ _ (scanned.owners-owners.ensures (requested past) asked.request-requested.ensures) c.if-owners-ne0.true
+    c.size.ensures
 
 enter_requires : tie.Need-enter-answer-requires
 enter_requires c κs =

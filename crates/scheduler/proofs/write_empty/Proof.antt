@@ -54,7 +54,8 @@ loop_again c =
       search rules,
       subst (λ (s : ℕ). Written kinds (object + 1) (set at_loop.loop-object.book s (get_or kinds object 0)))
           (sym c.object_start.ensures)
-          (one_written kinds object at_loop.loop-object.book in_loop.loop-object-test.true at_loop.loop-object.invariant.1),
+          (one_written kinds object at_loop.loop-object.book in_loop.loop-object-test.true
+          at_loop.loop-object.invariant.1),
     )
 
 same_length : tie.Need-shape_of-book invariant_loop decreases_loop
@@ -63,9 +64,14 @@ same_length c = c.loop-object.invariant.1.words ∙ sym (start c.before).require
 returns : tie.Need-returns invariant_loop decreases_loop
 returns c =
     let at_loop = c.before in
-    let e : at_loop.loop-object.object ≡ 16 = omega (arith, c.loop-object-test.false, at_loop.loop-object.invariant.0) in
+    let e : at_loop.loop-object.object ≡ 16 = omega (
+      arith,
+      c.loop-object-test.false,
+      at_loop.loop-object.invariant.0,
+    ) in
     all_written (start at_loop).args.kinds.now at_loop.loop-object.book
-    (subst (λ (n : ℕ). Written (start at_loop).args.kinds.now n at_loop.loop-object.book) e at_loop.loop-object.invariant.1)
+    (subst (λ (n : ℕ). Written (start at_loop).args.kinds.now n at_loop.loop-object.book) e
+    at_loop.loop-object.invariant.1)
     (start at_loop).requires.1 (known at_loop)
 
 pub write_empty_spec : {M : Type 1} → statement M

@@ -1,6 +1,7 @@
 -- The words of an empty book: the kinds of its objects, and all else 0.
 use Rattle.std.specs.Prelude.{ℕ, ◌+◌, ◌≤◌, ◌<◌, ◌≡◌, List, [], map, length, get_or, set, replicate}
-use Rattle.std.proofs.Common.{sym, ap, ◌∙◌, subst, not-suc-le-zero, arith, length-set, get_or-set_same, get_or-set_other}
+use Rattle.std.proofs.Common.{sym, ap, ◌∙◌, subst, not-suc-le-zero, arith, length-set, get_or-set_same}
+use Rattle.std.proofs.Common.{get_or-set_other}
 use Rattle.std.proofs.lemmas.List.{length-map, length-replicate, get_or-replicate}
 use Rattle.std.proofs.Math.ListN.{get_or-map}
 use Rattle.operations.specs.Operations.{All}
@@ -35,7 +36,8 @@ one_written kinds n w l before =
       words = length-set w (object_start n) (get_or kinds n 0) ∙ before.words;
       kind = λ o m. same o n
           (λ (e : o ≡ n).
-          subst (λ (u : ℕ). word (set w (object_start n) (get_or kinds n 0)) (object_start u) ≡ get_or kinds u 0) (sym e)
+          subst (λ (u : ℕ). word (set w (object_start n) (get_or kinds n 0)) (object_start u) ≡ get_or kinds u 0)
+          (sym e)
           (get_or-set_same w (object_start n) (get_or kinds n 0) 0 (omega (arith, before.words))))
           (λ (other : o ≡ n → ⊥).
           get_or-set_other w (object_start n) (object_start o) (get_or kinds n 0) 0 (λ e. other (omega arith))

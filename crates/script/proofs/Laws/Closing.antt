@@ -12,7 +12,8 @@ use Rattle.script.proofs.Laws.Issuing.{issued_nothing, issued_line}
 module _ (w line out journal : List ℕ) where
   abbrev TurnedBy : Bool → List ℕ → List ℕ → List ℕ → Ends → Type 0
   TurnedBy empty book printed recorded ends =
-      Turned (cond empty (turn (session w line) []) (line_ended (session w line))) book out printed journal recorded ends
+      Turned (cond empty (turn (session w line) []) (line_ended (session w line))) book out printed journal recorded
+      ends
 
   pub closed_empty : length line ≡ 0
       → Turned (closing (session w line)) w out out journal journal (record { written = 0; recorded = 0 })

@@ -1,7 +1,10 @@
 -- A block taken line by line.
-use Rattle.std.specs.Prelude.{ℕ, suc, ◌+◌, ◌-◌, ◌≤◌, ◌<◌, ◌≡◌, refl, Bool, true, false, ◌↔◌, ltb, length, take, drop, get_or}
+use Rattle.std.specs.Prelude.{ℕ, suc, ◌+◌, ◌-◌, ◌≤◌, ◌<◌, ◌≡◌, refl, Bool, true, false, ◌↔◌, ltb, length, take, drop}
+use Rattle.std.specs.Prelude.{get_or}
 use Prim.Native.Char.{code}
-use Rattle.std.proofs.Common.{sym, ap₂, ◌∙◌, subst, inl, inr, ⊎_elim, eq-zero-or-pos, arith, ltb-true, ltb-false, length-append, length-drop, drop-drop, take_all, take-add, take-suc, length-take-le, drop-cons}
+use Rattle.std.proofs.Common.{sym, ap₂, ◌∙◌, subst, inl, inr, ⊎_elim, eq-zero-or-pos, arith, ltb-true, ltb-false}
+use Rattle.std.proofs.Common.{length-append, length-drop, drop-drop, take_all, take-add, take-suc, length-take-le}
+use Rattle.std.proofs.Common.{drop-cons}
 use Rattle.std.proofs.Math.Path.{ap, subst⁻¹}
 use Rattle.std.proofs.lemmas.Bool.{false≢true}
 use mathlib.Core.List.{List, [], ◌∷◌, ◌++◌}

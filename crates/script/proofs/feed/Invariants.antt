@@ -9,7 +9,7 @@ invariant-loop-book l =
     (length l.line ≡ 717) × (length l.out ≡ length l.fn.out) × (length l.book ≡ length l.fn.book)
     × (length l.journal ≡ length l.fn.journal)
     × Took (session l.fn.book (take l.kept l.fn.line)) l.block (begun l.kept) l.book l.line l.fn.out l.out
-        l.fn.journal l.journal l.progress
+    l.fn.journal l.journal l.progress
 
 abbrev pub decreases-loop-book : goal.decreases-loop-book
 decreases-loop-book l = length l.block - l.progress.at

@@ -38,14 +38,16 @@ returns-in-Finish c =
     let a = c.args in
     let tell = c.tell-in-Finish.ensures in
     replied_with_list a.book.now a.asked.kinds a.asked.operations c.in-Finish.is _ tell.2
-    (finish c.in-Finish.transaction) c.finish-reply.result tell.0 tell.1 refl c.finish-reply.auto.list refl c.finish-reply.ensures
+    (finish c.in-Finish.transaction) c.finish-reply.result tell.0 tell.1 refl c.finish-reply.auto.list refl
+    c.finish-reply.ensures
 
 pub returns-in-Cancel : goal.returns-in-Cancel
 returns-in-Cancel c =
     let a = c.args in
     let tell = c.tell-in-Cancel.ensures in
     replied_with_list a.book.now a.asked.kinds a.asked.operations c.in-Cancel.is _ tell.2
-    (cancel c.in-Cancel.transaction) c.cancel-reply.result tell.0 tell.1 refl c.cancel-reply.auto.list refl c.cancel-reply.ensures
+    (cancel c.in-Cancel.transaction) c.cancel-reply.result tell.0 tell.1 refl c.cancel-reply.auto.list refl
+    c.cancel-reply.ensures
 
 pub returns-in-Unread : goal.returns-in-Unread
 returns-in-Unread c =

@@ -17,7 +17,8 @@ invariant_loop book representatives entries counts₀ used₀ tops₀ below₀ c
     going.Going book i cells counts used tops below
 
 abbrev decreases_loop : tie.decreases-loop-i
-decreases_loop book representatives entries counts₀ used₀ tops₀ below₀ cells₀ i₀ counts used tops below cells i = entries - i
+decreases_loop book representatives entries counts₀ used₀ tops₀ below₀ cells₀ i₀ counts used tops below cells i =
+    entries - i
 
 -- ---- Places
 

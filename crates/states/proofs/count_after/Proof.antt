@@ -13,7 +13,8 @@ returns_2 c = let s = c.before in words.one_less s.args.number s.args.code s.arg
 returns_3 : tie.Need-returns-in_default
 returns_3 c =
     let s = c.before in
-    words.as_many s.args.number s.args.code s.args.count c.in_default.in_default-own.rest.0.1 c.in_default.in_default-own.rest.1
+    words.as_many s.args.number s.args.code s.args.count c.in_default.in_default-own.rest.0.1
+    c.in_default.in_default-own.rest.1
 
 pub count_after_spec : {M : Type 1} → statement M
 count_after_spec =

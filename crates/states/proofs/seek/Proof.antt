@@ -95,7 +95,8 @@ returns_2 c =
     let s = start at_loop in
     seek_absent s.args.book.now s.args.object s.args.key s.requires.ascending at_loop.loop-left.invariant
     (omega (arith, c.loop-left-test.false))
-    (λ one e. ⊎_elim (λ w. w.if-row_key-key-2.false (w.row_key-then-left-eq1.ensures ∙ e)) (λ w. w.if-left-eq1.false one) c.else-left-eq1.branch-raw)
+    (λ one e. ⊎_elim (λ w. w.if-row_key-key-2.false (w.row_key-then-left-eq1.ensures ∙ e))
+    (λ w. w.if-left-eq1.false one) c.else-left-eq1.branch-raw)
 
 pub seek_spec : {M : Type 1} → statement M
 seek_spec =

@@ -15,7 +15,8 @@ entry_operation_requires c κs =
 serve_stack_requires : tie.Need-serve_stack-requires
 serve_stack_requires c κs =
     let read = c.before.before.before.before.before in
-    stack_entry (start read).requires read.entry_operation-operation.result.number read.entry_operation-operation.ensures.0
+    stack_entry (start read).requires read.entry_operation-operation.result.number
+    read.entry_operation-operation.ensures.0
     (omega (arith, c.if-operation-lt-SET_INSERT.true))
 
 returns : tie.Need-returns-then-operation-lt-SET_INSERT
@@ -26,7 +27,8 @@ returns c =
 serve_keyed_requires : tie.Need-serve_keyed-requires
 serve_keyed_requires c κs =
     let read = c.before.before.before.before in
-    keyed_entry (start read).requires read.entry_operation-operation.result.number read.entry_operation-operation.ensures.0
+    keyed_entry (start read).requires read.entry_operation-operation.result.number
+    read.entry_operation-operation.ensures.0
     (omega (arith, c.if-operation-lt-SET_INSERT.false))
 
 returns_2 : tie.Need-returns

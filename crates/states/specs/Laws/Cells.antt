@@ -3,8 +3,10 @@ use Rattle.std.specs.Prelude.{ℕ, ◌+◌, ◌-◌, ◌≤◌, ◌<◌, ◌≡�
 use Rattle.std.proofs.Math.Path.{refl, ap}
 use Rattle.std.proofs.Common.{sym, ◌∙◌, arith, length-append}
 use Rattle.std.proofs.Math.Option.{Option, none, some}
-use Rattle.operations.specs.Operations.{Stack, Row, answering, flag, valued, set_insert, set_delete, member, table_insert}
-use Rattle.operations.specs.Operations.{table_delete, lookup, size, modify, Operation, on_stack, on_set, on_table, kind_of}
+use Rattle.operations.specs.Operations.{Stack, Row, answering, flag, valued, set_insert, set_delete, member}
+use Rattle.operations.specs.Operations.{table_insert}
+use Rattle.operations.specs.Operations.{table_delete, lookup, size, modify, Operation, on_stack, on_set, on_table}
+use Rattle.operations.specs.Operations.{kind_of}
 use Rattle.operations.specs.Operations.{key_of, value_of, number_of, next, answer, found, is_some}
 use Rattle.operations.proofs.Laws.Rows.{order, by_order_less, by_order_equal, by_order_greater, rows_at, alter, kept}
 use Rattle.operations.proofs.Laws.Rows.{dropped, replaced, inserted_alters, deleted_alters, modified_alters, alter_at}
@@ -64,7 +66,8 @@ alter_counts k f (r ∷ rs) =
     (λ (h : k < r.key). simp by_order_greater (omega (arith, length-append absent (r ∷ rs), rows_code k (f none))))
 
 module _ (rs : List Row) where
-  count_inserted : (k v : ℕ) → length rs + 1 - (valued (found k rs)).code ≡ length (next (on_table (table_insert k v)) rs)
+  count_inserted : (k v : ℕ) → length rs + 1 - (valued (found k rs)).code ≡ length (next (on_table
+      (table_insert k v)) rs)
   count_inserted k v = rw (inserted_alters k v rs) (omega (arith, alter_counts k (kept v) rs, kept_code v (found k rs)))
 
   count_deleted : (k : ℕ) → length rs - (valued (found k rs)).code ≡ length (next (on_table (table_delete k)) rs)

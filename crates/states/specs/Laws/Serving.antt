@@ -2,7 +2,8 @@
 use Rattle.std.specs.Prelude.{ℕ, ◌+◌, ◌≤◌, ◌<◌, ◌≡◌, refl, Bool, true, cond, ◌↔◌, List, ◌∷◌, eqb, length, get_or, set}
 use Rattle.std.proofs.Common.{sym, ap, ap₂, ◌∙◌, subst, arith, eq-eqb, ne_eqb, get_or-set_same, get_or-set_other}
 use Rattle.std.proofs.Math.Option.{some, some-injective}
-use Rattle.operations.specs.Operations.{Kind, Stack, Set, Table, Row, Operation, Answer, answering, kind_of, key_of, next}
+use Rattle.operations.specs.Operations.{Kind, Stack, Set, Table, Row, Operation, Answer, answering, kind_of, key_of}
+use Rattle.operations.specs.Operations.{next}
 use Rattle.operations.specs.Operations.{answer, WellFormed, reduce_key}
 use Rattle.operations.specs.Log.{Answered}
 use Rattle.operations.specs.declared.Operation as code

@@ -1,6 +1,7 @@
 -- An entry of a stack, and the state after it.
 use Rattle.std.specs.Prelude.{ℕ, ◌+◌, ◌-◌, ◌≤◌, ◌<◌, ◌≡◌, refl, Bool, List, [], ◌∷◌, length, get_or, set}
-use Rattle.std.proofs.Common.{sym, ap, ◌∙◌, subst, arith, length-set, length-append, length-take, get_or-set_same, get_or-set_other}
+use Rattle.std.proofs.Common.{sym, ap, ◌∙◌, subst, arith, length-set, length-append, length-take, get_or-set_same}
+use Rattle.std.proofs.Common.{get_or-set_other}
 use Rattle.std.proofs.Math.Option.{some, some-injective}
 use Rattle.std.proofs.lemmas.List.{set-get_or}
 use Rattle.operations.specs.Operations.{Stack, Row, row, Operation, on_stack, push, pop, top, Answer, answering, valued}
@@ -30,7 +31,8 @@ module _ {w : List ℕ} {i o : ℕ} {counts tops below : List ℕ} (k : StackEnt
       → Stacked w i (rows_at w o) (s.rows o) (get_or tops o 0) below
   stack_here s = s.stack o placed is_stack
 
-  pub bounds : (get_or counts o 0 ≤ 320) × (get_or tops o 0 ≤ 256) × (get_or tops o 0 ≡ 0 → get_or counts o 0 ≤ 64) × (i < 256)
+  pub bounds : (get_or counts o 0 ≤ 320) × (get_or tops o 0 ≤ 256) × (get_or tops o 0 ≡ 0 → get_or counts o 0 ≤ 64) ×
+      (i < 256)
   bounds =
       let s = k.state in
       let count = s.counted o placed in
@@ -100,7 +102,8 @@ module _ {w : List ℕ} {i o : ℕ} {counts tops below : List ℕ} (k : StackEnt
     -- The operation that a number names.
     named : (n : ℕ) → number ≡ n
         → operation_at w i ≡ or_pop (stored (λ x. x) n (entry_key w i) (word w (entry_start i + 4)))
-    named n e = ap (λ (m : ℕ). or_pop (stored (λ x. x) m (entry_key w i) (word w (entry_start i + 4)))) (sym numbered ∙ e)
+    named n e = ap (λ (m : ℕ). or_pop (stored (λ x. x) m (entry_key w i) (word w (entry_start i + 4)))) (sym numbered
+        ∙ e)
 
     -- The test, where the answer is that of an operation that is known, and the arrays are those after it.
     judged : (op : Operation) → operation_at w i ≡ op → {cells : List ℕ} (s : Serving w i cells counts tops below)
@@ -141,13 +144,16 @@ module _ {w : List ℕ} {i o : ℕ} {counts tops below : List ℕ} (k : StackEnt
           → StackServed w i counts tops below (set counts o (get_or counts o 0 - 1))
           (set tops o (get_or below (get_or tops o 0 - 1) 0)) below test
       popped_entry two n cells s =
-          judged (on_stack pop) (named 2 two) s (top_right s) (get_or counts o 0 - 1) (get_or below (get_or tops o 0 - 1) 0)
-          (get_or below i 0) (fewer s) (popped_pushed (stack_here s) (get_or below i 0) n) refl refl (set-get_or below i 0)
+          judged (on_stack pop) (named 2 two) s (top_right s) (get_or counts o 0 - 1) (get_or below
+          (get_or tops o 0 - 1) 0)
+          (get_or below i 0) (fewer s) (popped_pushed (stack_here s) (get_or below i 0) n) refl refl
+          (set-get_or below i 0)
 
       pub popped_row : number ≡ 2 → get_or tops o 0 ≡ 0
           → StackServed w i counts tops below (set counts o (get_or counts o 0 - 1)) tops below test
       popped_row two z cells s =
-          judged (on_stack pop) (named 2 two) s (top_right s) (get_or counts o 0 - 1) (get_or tops o 0) (get_or below i 0)
+          judged (on_stack pop) (named 2 two) s (top_right s) (get_or counts o 0 - 1) (get_or tops o 0)
+          (get_or below i 0)
           (fewer s) (popped_first (stack_here s) (get_or below i 0) z) refl (set-get_or tops o 0) (set-get_or below i 0)
 
       pub popped_none : number ≡ 2 → get_or counts o 0 ≤ 0 → StackServed w i counts tops below counts tops below test
@@ -170,5 +176,6 @@ module _ {w : List ℕ} {i o : ℕ} {counts tops below : List ℕ} (k : StackEnt
       pub looked_at : (number ≡ 1 → ⊥) → (number ≡ 2 → ⊥) → StackServed w i counts tops below counts tops below test
       looked_at one two cells s =
           judged (on_stack top) (named 3 (is_top one two)) s (top_right s) (get_or counts o 0) (get_or tops o 0)
-          (get_or below i 0) (s.counted o placed) (stacked_top (stack_here s) (get_or below i 0)) (set-get_or counts o 0)
+          (get_or below i 0) (s.counted o placed) (stacked_top (stack_here s) (get_or below i 0))
+          (set-get_or counts o 0)
           (set-get_or tops o 0) (set-get_or below i 0)

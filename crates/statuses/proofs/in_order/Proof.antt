@@ -1,4 +1,4 @@
--- `statuses::in_order_lem`: where each was seen once, by the test.
+-- `statuses::in_order`: where each was seen once, by the test.
 use mathlib.Core.Path.{sym, ◌∙◌}
 use mathlib.Core.Bool.{false≢true}
 use borrow.Author.Rules.{rules}

@@ -32,7 +32,11 @@ loop_again c =
     (λ w. (
       omega arith,
       omega arith,
-      omega (arith, count_same book n read.status_word.result read.status_word.ensures w.if-status_word-gt-ACTIVE.false),
+      omega (
+        arith,
+        count_same book n read.status_word.result read.status_word.ensures
+            w.if-status_word-gt-ACTIVE.false,
+      ),
     ))
     c.if-status_word-gt-ACTIVE.branch-raw
 

@@ -14,7 +14,8 @@ returns c = noted_none c.args.ranks c.args.status c.if-status-lt-FIRST_RANK.true
 returns_2 : tie.Need-returns-then-rank-ge-COUNT
 returns_2 c =
     noted_again c.args.ranks c.args.status c.if-status-lt-FIRST_RANK.false
-    (⊎_elim (λ w. inl w.if-rank-ge-COUNT.true) (λ w. inr (sym w.contains.ensures ∙ w.if-contains.true)) c.then-rank-ge-COUNT.branch-raw)
+    (⊎_elim (λ w. inl w.if-rank-ge-COUNT.true) (λ w. inr (sym w.contains.ensures
+    ∙ w.if-contains.true)) c.then-rank-ge-COUNT.branch-raw)
 
 returns_3 : tie.Need-returns
 returns_3 c =

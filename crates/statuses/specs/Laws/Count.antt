@@ -32,7 +32,8 @@ module _ (w : List ℕ) where
   module _ (n : ℕ) where
     count_next : count_upto (n + 1) ≡ count_upto n + pseudo_committed_in (read_status (word w (1 + n)) ∷ [])
     unfolding count_upto
-    count_next = rw (add-one n, tabulate_snoc n (status_at w)) (finished_last (tabulate n (status_at w)) (status_at w n))
+    count_next = rw (add-one n, tabulate_snoc n (status_at w)) (finished_last (tabulate n (status_at w))
+        (status_at w n))
 
     pub count_more : (status : ℕ) → status ≡ word w (1 + n) → 1 < status → count_upto (n + 1) ≡ count_upto n + 1
     count_more status e l = rw (count_next, finished_one (word w (1 + n)) (omega arith))

@@ -54,7 +54,8 @@ module _ (s : Store) where
   -- No two transactions below n have one rank.
   abbrev pub Different : ℕ → Type 0
   Different n =
-      (t u rank : ℕ) → t < n → u < n → status_of s t ≡ pseudo_committed rank → status_of s u ≡ pseudo_committed rank → t ≡ u
+      (t u rank : ℕ) → t < n → u < n → status_of s t ≡ pseudo_committed rank → status_of s u ≡ pseudo_committed rank → t
+      ≡ u
 
   pub record Seen (n : ℕ) (ranks : Ranks) : Type 0 where
     pub holds : ranks.once ≡ true → Holds ranks.seen (Given n) × Different n

@@ -19,7 +19,11 @@ finished_read (suc (suc rank)) l = ap pseudo_committed (omega arith)
 
 live_word : (x : ℕ) → (ltb 0 x ≡ true) ↔ (read_status x ≡ absent → ⊥)
 live_word zero = (λ h. absurd (false≢true h), λ p. absurd (p refl))
-live_word (suc x) = (λ h e. omega (arith, ap status_word e, status_written (suc x)), λ p. lt-ltb 0 (suc x) (omega arith))
+live_word (suc x) = (
+  λ h e. omega (arith, ap status_word e, status_written (suc x)),
+  λ p. lt-ltb 0 (suc x)
+      (omega arith),
+)
 
 finished_word : (x : ℕ) → (ltb 1 x ≡ true) ↔ ((rank : ℕ) × (read_status x ≡ pseudo_committed rank))
 finished_word x = (

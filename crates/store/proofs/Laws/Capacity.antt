@@ -3,7 +3,8 @@ use Rattle.std.specs.Prelude.{ℕ, suc, ◌+◌, ◌-◌, ◌≤◌, ◌<◌, �
 use Rattle.std.proofs.Common.{sym, ap, ◌∙◌, arith, ne_eqb, length-append, length-take}
 use Rattle.std.proofs.Math.Option.{Option, none, some, none-ne-some}
 use Rattle.operations.specs.Operations.{Row, row, Answer, push, pop, top, set_insert, set_delete, member, table_insert}
-use Rattle.operations.specs.Operations.{table_delete, lookup, size, modify, Operation, on_stack, on_set, on_table, kind_of}
+use Rattle.operations.specs.Operations.{table_delete, lookup, size, modify, Operation, on_stack, on_set, on_table}
+use Rattle.operations.specs.Operations.{kind_of}
 use Rattle.operations.specs.Operations.{next, All}
 use Rattle.operations.specs.Log.{Entry}
 use Rattle.operations.proofs.Laws.Cases.{same}

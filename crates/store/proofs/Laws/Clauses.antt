@@ -6,7 +6,8 @@ use Rattle.std.proofs.Math.Option.{Option, none, some, none-ne-some, some-inject
 use Rattle.std.proofs.Math.Decide.{ℕ_discrete, dec_le, dec_lt}
 use Rattle.std.proofs.Math.ListN.{get_or-eq_default}
 use Rattle.operations.specs.Operations.{Kind, Stack, Set, Table, Row, Answer, answering, Operation, on_stack, on_set}
-use Rattle.operations.specs.Operations.{on_table, kind_of, Ascending, WellFormed, number_of, key_of, value_of, StoredKey}
+use Rattle.operations.specs.Operations.{on_table, kind_of, Ascending, WellFormed, number_of, key_of, value_of}
+use Rattle.operations.specs.Operations.{StoredKey}
 use Rattle.operations.specs.Log.{Entry, Recoverable, Answered}
 use Rattle.operations.proofs.Laws.ObjectTypes.{ObjectType}
 use Rattle.operations.proofs.Laws.Objects.{object}

@@ -37,7 +37,8 @@ module _ (w : List ℕ) (o : ℕ) (l : o < 16) where
         (ap (word w) (omega arith), (ap (word w) (omega arith), tt)) j in
         ext_get_or 0 part (joined row_words (rows_at w o))
         (size ∙ ap (λ (k : ℕ). 2 * k) (sym (length_tabulate count (row_at w o))) ∙ sym (rows_length (rows_at w o)))
-        (λ p l. get_or-take m (drop (object_start o + 2) w) p 0 (omega (arith, size)) ∙ get_or-drop (object_start o + 2) w p 0
+        (λ p l. get_or-take m (drop (object_start o + 2) w) p 0 (omega (arith, size)) ∙ get_or-drop
+        (object_start o + 2) w p 0
         ∙ sym (joined_same row_words 2 count (row_at w o) (λ (q : ℕ). word w (object_start o + 2 + q))
         (λ i k. refl) row p (omega (arith, size))))
         ∙ ap (λ (x : Object). joined row_words x.rows) (sym (object_read base w o l))

@@ -1,6 +1,7 @@
 -- Ways along the edges of a graph: a way of any length has a short one, and where each node leads on there is a cycle.
 use Rattle.std.specs.Prelude.{ℕ, zero, suc, ◌≤◌, ◌<◌, ◌≡◌, refl, ◌↔◌, ◌⊎◌}
-use Rattle.std.proofs.Common.{sym, subst, ◌∙◌, inl, inr, ⊎_elim, not-suc-le-zero, le_of_suc-le-suc, eq-or-lt_of_le, le_refl}
+use Rattle.std.proofs.Common.{sym, subst, ◌∙◌, inl, inr, ⊎_elim, not-suc-le-zero, le_of_suc-le-suc, eq-or-lt_of_le}
+use Rattle.std.proofs.Common.{le_refl}
 use Rattle.operations.proofs.Laws.Cases.{same}
 use Rattle.store.specs.Dependency.{Way, Leads, Predecessor, Successor, Meet}
 

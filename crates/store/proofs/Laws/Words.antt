@@ -1,6 +1,8 @@
 -- Words by place: of lists after each other, of zeros, and of tables, whose rows have k words each.
-use Rattle.std.specs.Prelude.{ℕ, zero, suc, ◌+◌, ◌-◌, ◌*◌, ◌/◌, ◌%◌, ◌≤◌, ◌<◌, ◌≡◌, refl, true, false, List, [], ◌∷◌, ◌++◌, ltb, length, get_or, replicate}
-use Rattle.std.proofs.Common.{sym, ap, ◌∙◌, subst, append_assoc, not-suc-le-zero, mul-zero, mul-suc, mul-le-mul_left, zero-mul, mod-lt, arith, ltb-true, ltb-false, length-append, get_or-append-add}
+use Rattle.std.specs.Prelude.{ℕ, zero, suc, ◌+◌, ◌-◌, ◌*◌, ◌/◌, ◌%◌, ◌≤◌, ◌<◌, ◌≡◌, refl, true, false, List, [], ◌∷◌}
+use Rattle.std.specs.Prelude.{◌++◌, ltb, length, get_or, replicate}
+use Rattle.std.proofs.Common.{sym, ap, ◌∙◌, subst, append_assoc, not-suc-le-zero, mul-zero, mul-suc, mul-le-mul_left}
+use Rattle.std.proofs.Common.{zero-mul, mod-lt, arith, ltb-true, ltb-false, length-append, get_or-append-add}
 use Rattle.std.proofs.Math.Nat.{div-add-mod, lt_of_mul-lt-mul_left}
 use Rattle.std.proofs.lemmas.List.{length-replicate, get_or-replicate}
 use Rattle.std.proofs.Math.ListN.{get_or-append, get_or-eq_default}
@@ -27,7 +29,8 @@ module _ {A : Type 0} where
   pub tabulate_list : (l : List A) (d : A) (n : ℕ) (f : ℕ → A) → length l ≡ n
       → ((i : ℕ) → i < n → f i ≡ get_or l i d) → tabulate n f ≡ l
   tabulate_list l d n f e h =
-      tabulate_same n f (λ i. get_or l i d) h ∙ ap (λ (m : ℕ). tabulate m (λ i. get_or l i d)) (sym e) ∙ tabulate_get_d l d
+      tabulate_same n f (λ i. get_or l i d) h ∙ ap (λ (m : ℕ). tabulate m (λ i. get_or l i d)) (sym e)
+      ∙ tabulate_get_d l d
 
 -- What holds at each place below a given number, as a tuple.
 abbrev Each : (ℕ → Type 0) → ℕ → Type 0

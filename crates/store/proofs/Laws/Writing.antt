@@ -1,6 +1,7 @@
 -- What a change writes in the book: a status one word; an entry put last its seven words and the number of entries.
 use Rattle.std.specs.Prelude.{ℕ, zero, suc, ◌+◌, ◌-◌, ◌≤◌, ◌<◌, ◌≡◌, refl, ◌⊎◌, set, replicate}
-use Rattle.std.proofs.Common.{sym, ap₂, ◌∙◌, ⊎_elim, not-suc-le-zero, arith, length-append, length-set, get_or-set_same, get_or-set_other, drop_at}
+use Rattle.std.proofs.Common.{sym, ap₂, ◌∙◌, ⊎_elim, not-suc-le-zero, arith, length-append, length-set, get_or-set_same}
+use Rattle.std.proofs.Common.{get_or-set_other, drop_at}
 use Rattle.std.proofs.Math.Path.{ap}
 use mathlib.Core.List.{List, [], ◌∷◌, ◌++◌, map, append_assoc}
 use Rattle.std.proofs.Math.ListN.{length}

@@ -1,5 +1,6 @@
 -- Texts without a separator, and how many pieces there are.
-use Rattle.std.specs.Prelude.{ℕ, zero, suc, ◌+◌, ◌/◌, ◌%◌, ◌≤◌, ◌<◌, ◌≡◌, refl, Bool, true, false, not, ◌&&◌, List, [], ◌∷◌, ◌++◌, eqb, ltb, length, take}
+use Rattle.std.specs.Prelude.{ℕ, zero, suc, ◌+◌, ◌/◌, ◌%◌, ◌≤◌, ◌<◌, ◌≡◌, refl, Bool, true, false, not, ◌&&◌, List, []}
+use Rattle.std.specs.Prelude.{◌∷◌, ◌++◌, eqb, ltb, length, take}
 use Rattle.std.proofs.Common.{ap, append_assoc, arith, ne_eqb, eq-eqb}
 use Rattle.std.proofs.lemmas.Bool.{not-true}
 use borrow.Table.Steps.{cases}

@@ -1,5 +1,6 @@
 -- A number read digit by digit.
-use Rattle.std.specs.Prelude.{ℕ, ◌+◌, ◌*◌, ◌-◌, ◌^◌, ◌≤◌, ◌<◌, ◌≡◌, refl, Bool, false, ◌&&◌, List, ◌∷◌, leb, length, get_or, drop}
+use Rattle.std.specs.Prelude.{ℕ, ◌+◌, ◌*◌, ◌-◌, ◌^◌, ◌≤◌, ◌<◌, ◌≡◌, refl, Bool, false, ◌&&◌, List, ◌∷◌, leb, length}
+use Rattle.std.specs.Prelude.{get_or, drop}
 use Rattle.std.proofs.Common.{sym, ◌∙◌, add-one, arith, drop_of_length-le, drop-cons}
 use Rattle.std.proofs.Math.Path.{ap}
 use Rattle.std.proofs.Math.Bool.{true, cond, and-false}
@@ -59,7 +60,8 @@ module _ {field : List ℕ} {value i : ℕ} (so : DigitsRead field value i) wher
 
     pub stops : is_digit byte ≡ false → none ≡ number_in field
     stops other =
-        not_digits field (so.digits ∙ ap all_digits rest ∙ ap (λ (t : Bool). t && all_digits (drop (i + 1) field)) other)
+        not_digits field (so.digits ∙ ap all_digits rest ∙ ap (λ (t : Bool). t && all_digits (drop
+        (i + 1) field)) other)
 
   module _ (end : length field ≤ i) where
     whole : value_after 0 field ≡ value

@@ -1,6 +1,8 @@
 -- Texts put one after the other.
 use Rattle.std.specs.Prelude.{ℕ, suc, ◌+◌, ◌-◌, ◌≤◌, ◌<◌, ◌≡◌, refl, List, [], ◌∷◌, ◌++◌, length, take, drop, set}
-use Rattle.std.proofs.Common.{sym, ap, ap₂, ◌∙◌, append_assoc, append-nil, arith, add-zero, add-one, length-append, length-drop, take-append-drop, drop_of_length-le, take_at, drop_at, drop-drop, length-take-le, take_all}
+use Rattle.std.proofs.Common.{sym, ap, ap₂, ◌∙◌, append_assoc, append-nil, arith, add-zero, add-one, length-append}
+use Rattle.std.proofs.Common.{length-drop, take-append-drop, drop_of_length-le, take_at, drop_at, drop-drop}
+use Rattle.std.proofs.Common.{length-take-le, take_all}
 use borrow.Rule.Slice.PartMut.{mid_of, put_mid}
 use Rattle.std.proofs.lemmas.List.{set_split}
 use Rattle.std.proofs.Math.Seq.{append_snoc, take-length}

@@ -1,5 +1,6 @@
 -- The digits of a number say it.
-use Rattle.std.specs.Prelude.{ℕ, zero, suc, ◌+◌, ◌*◌, ◌-◌, ◌/◌, ◌%◌, ◌≤◌, ◌<◌, ◌≡◌, refl, Bool, true, ◌&&◌, List, [], ◌∷◌, ◌++◌, ltb, length}
+use Rattle.std.specs.Prelude.{ℕ, zero, suc, ◌+◌, ◌*◌, ◌-◌, ◌/◌, ◌%◌, ◌≤◌, ◌<◌, ◌≡◌, refl, Bool, true, ◌&&◌, List, []}
+use Rattle.std.specs.Prelude.{◌∷◌, ◌++◌, ltb, length}
 use Rattle.std.proofs.Common.{ap, ◌∙◌, mod-lt, arith, ltb-true, ltb-false, lt-ltb, le-leb, length-append}
 use Rattle.std.proofs.Math.Nat.{div-add-mod}
 use borrow.Table.Steps.{cases}

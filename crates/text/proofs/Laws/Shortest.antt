@@ -1,5 +1,6 @@
 -- A number has no shorter digits: its first is not 0, and so many digits say no larger number.
-use Rattle.std.specs.Prelude.{ℕ, zero, suc, ◌+◌, ◌*◌, ◌-◌, ◌/◌, ◌%◌, ◌^◌, ◌≤◌, ◌<◌, ◌≡◌, true, List, [], ◌∷◌, ltb, leb, length, get_or}
+use Rattle.std.specs.Prelude.{ℕ, zero, suc, ◌+◌, ◌*◌, ◌-◌, ◌/◌, ◌%◌, ◌^◌, ◌≤◌, ◌<◌, ◌≡◌, true, List, [], ◌∷◌, ltb, leb}
+use Rattle.std.specs.Prelude.{length, get_or}
 use Rattle.std.proofs.Common.{ap, ◌∙◌, subst, zero-add, arith, leb-true, ltb-true, ltb-false}
 use Rattle.std.proofs.Math.Nat.{pow-succ', div-add-mod}
 use borrow.Table.Steps.{cases}

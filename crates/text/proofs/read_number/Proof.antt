@@ -36,7 +36,8 @@ above c =
     omega (arith, c.if-byte-gt57.true) in
     stops at.loop-i.invariant.1 c.before.before.before.loop-i-test.true (above_digits _ high)
 
-small : (c : tie.Else-byte-gt57 invariant_loop decreases_loop) → c.before.before.before.before.loop-i.value < 10_000_000_000
+small : (c : tie.Else-byte-gt57 invariant_loop decreases_loop) → c.before.before.before.before.loop-i.value <
+    10_000_000_000
 small c = bounded c.before.before.before.before.loop-i.invariant.1 (omega arith)
 
 loop_again : tie.Need-loop-i-preserved invariant_loop decreases_loop

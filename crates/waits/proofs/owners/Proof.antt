@@ -142,7 +142,8 @@ ruled c o s =
     })
     (λ w. record {
       kind = model.Table;
-      pair = pair c.before model.Table (tells_table _ w.in_default.in_default-own.rest.0.1 w.in_default.in_default-own.rest.1) o s;
+      pair = pair c.before model.Table (tells_table _ w.in_default.in_default-own.rest.0.1
+          w.in_default.in_default-own.rest.1) o s;
       code = w.rule-is ∙ w.table_recoverable-rule.ensures;
     }))
     c.match-kind.branch-raw
@@ -170,7 +171,8 @@ forced : (c : tie.Joined-rule invariant_scan decreases_scan) → (o : model.Oper
     ≡ false
 forced c o s =
     ⊎_elim (λ w. same_keys (ruled c.before o s) w.in-2-rule.is w.if-requested-logged.false)
-    (λ w. otherwise_no (ruled c.before o s) w.in_default-rule.in_default-rule-own.rest.0.1 w.in_default-rule.in_default-rule-own.rest.1)
+    (λ w. otherwise_no (ruled c.before o s) w.in_default-rule.in_default-rule-own.rest.0.1
+    w.in_default-rule.in_default-rule-own.rest.1)
     c.match-rule.branch-raw
 
 scan_again_4 : tie.Need-scan-preserved invariant_scan decreases_scan

@@ -100,7 +100,8 @@ module _ {w : List ℕ} {t object : ℕ} {requested : Operation} {set i owner on
       (λ (h : eqb on object ≡ false). told o false true h own))
 
   pub pass_other : (on ≡ object → ⊥) → Scanning w t object requested set (i + 1)
-  pass_other n = passed (λ o s. told o false (eqb owner t || recoverable o (operation_at w i)) (ne_eqb on object n) refl)
+  pass_other n = passed (λ o s. told o false (eqb owner t || recoverable o (operation_at w i))
+      (ne_eqb on object n) refl)
 
   -- Who owns an entry is live, and so below 64.
   pub owner_below : owner < 64
