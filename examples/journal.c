@@ -1,6 +1,6 @@
 /* A journal of some calls: each call's record is written, then all are read back and printed, as in journal.txt.
  *
- *     rt staticlib capi
+ *     tools/build library
  *     cc -std=c99 -Wall -Wextra -pedantic -Iinclude examples/journal.c target/staticlib/libcapi.a -o journal
  *     ./journal
  */

@@ -1,6 +1,6 @@
 //! A journal of some calls: each call's record is written, then all are read back and printed, as in `journal.txt`.
 //!
-//!     rt staticlib capi
+//!     tools/build library
 //!     cargo run --manifest-path bindings/Cargo.toml --example journal
 
 use lending_desk::journal::{next, write, Record, Reply};

@@ -1,6 +1,6 @@
 /* Two handouts on one stack: the paper's whole case. Each call is printed with its reply, as in whole_case.txt.
  *
- *     rt staticlib capi
+ *     tools/build library
  *     cc -std=c99 -Wall -Wextra -pedantic -Iinclude examples/whole_case.c target/staticlib/libcapi.a -o whole_case
  *     ./whole_case
  */

@@ -1,6 +1,6 @@
 //! Two handouts on one stack: the paper's whole case. Each call is printed with its reply, as in `whole_case.txt`.
 //!
-//!     rt staticlib capi
+//!     tools/build library
 //!     cargo run --manifest-path bindings/Cargo.toml --example whole_case
 
 use std::process::ExitCode;

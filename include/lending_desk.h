@@ -1,4 +1,4 @@
-/* The proved lending desk, for programs that link target/staticlib/libcapi.a (written by `rt staticlib capi`).
+/* The proved lending desk, for programs that link target/staticlib/libcapi.a (written by `tools/build library`).
  *
  * A book is LENDING_DESK_WORDS words that the program lends to each call; nothing else is kept. Any numbers, any lengths and any contents may be
  * handed over: a call that can't be served says why in `refusal` and changes neither book nor list. What each call replies and every word that it

@@ -15,8 +15,8 @@ use comparison::program::Program;
 use reference::journal;
 
 /// Folders whose paths are written out from the repository's root.
-const FOLDERS: [&str; 8] =
-    ["crates/", "docs/", "bindings/", "reference/", "comparison/", "bench/", "include/", "examples/"];
+const FOLDERS: [&str; 9] =
+    ["crates/", "docs/", "bindings/", "reference/", "comparison/", "bench/", "include/", "examples/", "tools/"];
 
 /// Words that stand for any name in a path.
 const PLACEHOLDERS: [&str; 4] = ["CRATE", "LABEL", "FUNCTION", "NAME"];
@@ -226,7 +226,7 @@ fn declares(text: &str, name: &str) -> bool {
 /// The text of all files of antt below a folder.
 fn antt_below(folder: &Path) -> String {
     let text = |name: String| match folder.join(&name) {
-        path if path.is_dir() => antt_below(&path),
+        path if path.is_dir() && name != "out" => antt_below(&path),
         path if name.ends_with(".antt") => fs::read_to_string(path).unwrap_or_default(),
         _ => String::new(),
     };
@@ -235,7 +235,7 @@ fn antt_below(folder: &Path) -> String {
 
 /// Names of laws and theorems: no paths, and no code.
 fn declared_names(cell: &str) -> impl Iterator<Item = &str> {
-    quoted(cell).into_iter().filter(|name| is_word(name, "-₂"))
+    quoted(cell).into_iter().filter(|name| is_word(name, "_-₂"))
 }
 
 /// Theorems that a table names and no `specs` has.
@@ -413,7 +413,7 @@ fn shown_numbers_are_in_groups() {
 /// A proved case cannot read a file: it has the listing's columns as two texts.
 #[test]
 fn proved_case_has_the_listing() {
-    let Document { path, text } = Document::read("crates/script/specs/Cases.antt");
+    let Document { path, text } = Document::read("crates/script/proofs/Cases.antt");
     let (input, output) = columns(WHOLE_CASE);
     for column in [input, output] {
         assert!(text.contains(&format!("= {column:?}\n")), "{path} should have {column:?}");
@@ -454,7 +454,7 @@ fn said(text: &str) -> Vec<String> {
     let document = document(text);
     let lines = |line: &str| [broken_links(&document.path, line), missing_paths(line), missing_items(line)].concat();
     let rows = document.rows();
-    let specs = antt_below(&root().join("crates/store/specs"));
+    let specs = antt_below(&root().join("crates/store"));
     let rows = rows.iter().flat_map(|row| [missing_theorems(row, &specs), missing_laws(row)].concat());
     document.prose().into_iter().flat_map(lines).chain(rows).collect()
 }
@@ -464,10 +464,10 @@ fn right_texts_are_let_through() {
     for text in [
         "[there](PROMISES.md#how-to-check-one), [up](../README.md), [out](https://example.org/none)",
         "`crates/store/specs/{Store,Layout}.antt`, `crates/*/must-fail`, `crates/CRATE/must-fail/LABEL.edit`, `docs/`",
-        "`store/specs/Layout`, `store/dependency_reversed`, `log::append`, `layout::OBJECTS`, `bytes::copy`, `no/such`",
+        "`store/specs/Layout`, `store/dependency_reversed`, `entry_log::append`, `layout::OBJECTS`, `bytes::copy`, `no/such`",
         "```\n[not](looked-at.md) `docs/none`\n```",
-        "| subject | laws |\n|---|---|\n| `crates/store/specs/Laws/Lists.antt` | `length-tabulate` |",
-        "| name | promise |\n|---|---|\n| `zeros-sound` (`Theorems.antt`) | |",
+        "| subject | laws |\n|---|---|\n| `crates/store/proofs/Laws/Lists.antt` | `length_tabulate` |",
+        "| name | promise |\n|---|---|\n| `zeros_sound` (`Theorems.antt`) | |",
     ] {
         assert_eq!(said(text), [""; 0], "{text}");
     }
@@ -484,9 +484,9 @@ fn wrong_texts_are_noticed() {
         "`bench/none.rs`",
         "`store/specs/None`",
         "`store/no_such_edit`",
-        "`log::appended`",
-        "| subject | laws |\n|---|---|\n| `crates/store/specs/Laws/Lists.antt` | `length-tabulated` |",
-        "| name | promise |\n|---|---|\n| `zeros-unsound` | |",
+        "`entry_log::appended`",
+        "| subject | laws |\n|---|---|\n| `crates/store/proofs/Laws/Lists.antt` | `length_tabulated` |",
+        "| name | promise |\n|---|---|\n| `zeros_unsound` | |",
     ] {
         assert_eq!(said(text).len(), 1, "{text}: {:?}", said(text));
     }
@@ -494,10 +494,10 @@ fn wrong_texts_are_noticed() {
 
 #[test]
 fn edits_are_compared_both_ways() {
-    let edits: BTreeSet<String> = ["log/one", "store/two"].map(str::to_string).into();
+    let edits: BTreeSet<String> = ["entry_log/one", "store/two"].map(str::to_string).into();
     let apart = |text: &str| unlike_edits(&document(text), &edits);
-    assert_eq!(apart("`store/two`, `store/specs`, `no/such`, and again `store/two`\n| `log/one` |"), [""; 0]);
-    assert_eq!(apart("`store/two`"), ["log/one isn't named"]);
-    assert_eq!(apart("```\n`log/one`\n```\n`store/two`"), ["log/one isn't named"]);
-    assert_eq!(apart("`log/one`, `store/one`"), ["store/two isn't named", "there is no edit store/one"]);
+    assert_eq!(apart("`store/two`, `store/specs`, `no/such`, and again `store/two`\n| `entry_log/one` |"), [""; 0]);
+    assert_eq!(apart("`store/two`"), ["entry_log/one isn't named"]);
+    assert_eq!(apart("```\n`entry_log/one`\n```\n`store/two`"), ["entry_log/one isn't named"]);
+    assert_eq!(apart("`entry_log/one`, `store/one`"), ["store/two isn't named", "there is no edit store/one"]);
 }

@@ -17,7 +17,9 @@ fn wide_below(folder: &Path) -> Vec<String> {
     for entry in fs::read_dir(folder).unwrap_or_else(|error| panic!("{}: {error}", folder.display())) {
         let path = entry.expect("an entry of the folder").path();
         if path.is_dir() {
-            found.extend(wide_below(&path));
+            if !path.ends_with("out") {
+                found.extend(wide_below(&path));
+            }
         } else if path.extension().map_or(false, |kind| kind == "rt" || kind == "antt") {
             let text = fs::read_to_string(&path).unwrap_or_else(|error| panic!("{}: {error}", path.display()));
             found.extend(wide_lines(&text).into_iter().map(|line| format!("{}:{line}", path.display())));
