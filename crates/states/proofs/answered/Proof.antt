@@ -107,11 +107,6 @@ array_read_wide c = placed (entry c.before)
 add_taken : tie.Need-overflow_add-taken invariant_loop decreases_loop
 add_taken c = omega (arith, bounds c)
 
-returns_2 : tie.Need-returns-then-taken-gt-ROWS invariant_loop decreases_loop
-returns_2 c =
-    let l = (in_loop c.before).before in
-    going.go_full (formed (start l)) l.loop-i.invariant (taken c.before) (omega (arith, c.if-taken-gt-ROWS.true))
-
 cast_used : tie.Need-overflow_cast-used invariant_loop decreases_loop
 cast_used c = omega (arith, bounds c.before)
 
@@ -160,7 +155,7 @@ loop_again c =
     let w = at_serve c.before in
     let l = (in_loop w).before in
     going.go_on (formed (start l)) l.loop-i.invariant (taken w) c.serve.ensures (ap not c.if-not-serve.false)
-    (omega (arith, c.if-taken-gt-ROWS.false))
+    (omega arith)
 
 returns_4 : tie.Need-returns invariant_loop decreases_loop
 returns_4 c =
@@ -187,7 +182,9 @@ answered_spec =
     (λ c κs. search rules)
     (λ c κs. search rules)
     add_taken
-    returns_2
+    (λ c.
+    let l = (in_loop c.before).before in
+    going.go_full (formed (start l)) l.loop-i.invariant (taken c.before) (omega arith))
     cast_used
     mul_used
     array_write_used
