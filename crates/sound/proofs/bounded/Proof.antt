@@ -21,4 +21,11 @@ log c =
     (λ (b : Bounded _). b.log)
 
 pub bounded_spec : {M : Type 1} → statement M
-bounded_spec = tie.close (tie.spec (λ c. of_another_length _ (λ e. omega arith)) (λ c κs. search rules) objects (λ c κs. search rules) log)
+bounded_spec =
+    tie.close
+    (tie.spec
+    (λ c. of_another_length _ (λ e. omega arith))
+    (λ c κs. search rules)
+    objects
+    (λ c κs. search rules)
+    log)
