@@ -123,7 +123,9 @@ fn answered(rows: &[[u32; 2]; layout::ROWS], count: usize, operation: Operation)
 }
 
 // Entered one after the other, each seeing those before it. The copy of an object's rows goes through its operations,
-// and is made anew where the object changes.
+// and is made anew where the object changes. It is not inlined, so that the check of soundness, which takes the most
+// stack, does not stand on its copies.
+#[inline(never)]
 pub fn enter_each(
     book: &mut [u32],
     transaction: u32,
