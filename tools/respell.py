@@ -12,8 +12,8 @@ import re
 import sys
 
 # A name: letters, digits, primes, subscripts, and dashes and dots inside.
-NAME = re.compile(r"[A-Za-z_\u0370-\u03ff\u2080-\u209c'\u2115]"
-                  r"[A-Za-z0-9_\u0370-\u03ff\u2080-\u209c'\u2032\u2115\u2260]*(?:-[A-Za-z0-9_\u0370-\u03ff\u2080-\u209c'\u2032\u2115\u2260]+)*")
+INSIDE = r"[A-Za-z0-9_\u0370-\u03ff\u2080-\u209c'\u2032\u2115\u2260]"
+NAME = re.compile(rf"[A-Za-z_\u0370-\u03ff\u2080-\u209c'\u2115]{INSIDE}*(?:-{INSIDE}+)*")
 DECLARED = re.compile(r"^\s*(?:(?:pub|abbrev|unfoldable|opaque|private)\s+)*(?:record\s+|data\s+)?"
                       r"(\S+?(?:\s+[A-Za-z][\w'-]*)*)(?:\s+[({].*?)?\s+:(?:\s|$)")
 CONSTRUCTOR = re.compile(r"^\s*\|?\s*(?:pub\s+)?([a-z][\w'-]*)\s+:\s")
@@ -168,7 +168,8 @@ def main(root):
             back.setdefault(to.get(old, old), set()).add(old)
         for new, olds in sorted(back.items()):
             if len(olds) > 1:
-                print(new, sorted(olds), [sorted(os.path.relpath(p, root) for p in declared.get(o, ())) for o in sorted(olds)])
+                files = [sorted(os.path.relpath(p, root) for p in declared.get(o, ())) for o in sorted(olds)]
+                print(new, sorted(olds), files)
         return
     for path in texts(root, (".antt", ".rt", ".edit")):
         with open(path, encoding="utf-8") as f:
@@ -203,4 +204,5 @@ def main(root):
 
 
 if __name__ == "__main__":
-    main(os.path.dirname(os.path.dirname(os.path.abspath(__file__))) if len(sys.argv) < 2 or sys.argv[-1] == "--check" else sys.argv[1])
+    here = os.path.dirname(os.path.dirname(os.path.abspath(__file__)))
+    main(here if len(sys.argv) < 2 or sys.argv[-1] == "--check" else sys.argv[1])

@@ -338,7 +338,8 @@ struct Repository(PathBuf);
 impl Repository {
     /// Commands that `./desk` needs to serve and to build: all but `rt`.
     const COMMANDS: [&'static str; 14] = [
-        "awk", "bash", "cat", "cp", "dirname", "find", "grep", "mkdir", "mktemp", "mv", "readlink", "rm", "tee", "touch",
+        "awk", "bash", "cat", "cp", "dirname", "find", "grep", "mkdir", "mktemp", "mv", "readlink", "rm", "tee",
+        "touch",
     ];
 
     fn new(name: &str) -> Self {

@@ -464,7 +464,8 @@ fn right_texts_are_let_through() {
     for text in [
         "[there](PROMISES.md#how-to-check-one), [up](../README.md), [out](https://example.org/none)",
         "`crates/store/specs/{Store,Layout}.antt`, `crates/*/must-fail`, `crates/CRATE/must-fail/LABEL.edit`, `docs/`",
-        "`store/specs/Layout`, `store/dependency_reversed`, `entry_log::append`, `layout::OBJECTS`, `bytes::copy`, `no/such`",
+        "`store/specs/Layout`, `store/dependency_reversed`, `entry_log::append`, `layout::OBJECTS`, `bytes::copy`, \
+         `no/such`",
         "```\n[not](looked-at.md) `docs/none`\n```",
         "| subject | laws |\n|---|---|\n| `crates/store/proofs/Laws/Lists.antt` | `length_tabulate` |",
         "| name | promise |\n|---|---|\n| `zeros_sound` (`Theorems.antt`) | |",
