@@ -1,5 +1,5 @@
 -- A request on an object; and the rows that an operation may need, by its number.
-use Rattle.std.specs.Prelude.{ℕ, ◌≡◌, cond, List}
+use Rattle.std.specs.Prelude.{ℕ, ◌+◌, ◌≡◌, Bool, cond, ◌&&◌, eqb, List}
 use Rattle.std.proofs.Math.Option.{Option, none, some}
 use Rattle.operations.specs.Operations.{Operation, Answer, kind_of, number_of, reduce_key, StoredKey, Fits}
 use Rattle.operations.specs.Operations.{WellFormed, All, adds, stored}
@@ -7,7 +7,7 @@ use Rattle.operations.specs.declared.Operation as words
 use Rattle.operations.specs.Stored.{operation_of}
 use Rattle.operations.specs.Log.{Entry}
 use Rattle.store.specs.Store.{on_object}
-use Rattle.store.specs.Layout.{decode, base, rows_at}
+use Rattle.store.specs.Layout.{word, entry_start, decode, base, rows_at}
 
 -- A request on an object: its words name an operation of a kind that the object's rows and entries are of.
 pub record Requested (w : List ℕ) (o : ℕ) (operation : words.Operation) (requested : Operation) : Type 0 where
@@ -26,3 +26,7 @@ rows_for (some o) = cond (adds o) 1 0
 -- The same of the operation that a number names.
 unfoldable pub rows_needed : ℕ → ℕ
 rows_needed number = rows_for (stored (λ k. k) number 0 0)
+
+-- Whether entry i is of the object and needs one.
+abbrev pub may_add : List ℕ → ℕ → ℕ → Bool
+may_add w o i = eqb (word w (entry_start i + 1)) o && eqb (rows_needed (word w (entry_start i + 2))) 1

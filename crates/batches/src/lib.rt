@@ -1,28 +1,23 @@
 // Operations that are asked for: entered in the log with their answers; of a batch, also whom they wait for.
 #![tactic(auto)]
 
-ghost use Rattle.std.specs.Prelude.{◌≡◌, true, ◌↔◌, map, ◌<◌, ◌≤◌, ◌/◌, length};
+ghost use Rattle.std.specs.Prelude.{◌≡◌, true, ◌↔◌, map, ◌<◌, ◌≤◌, length, IfSome};
 ghost use Rattle.operations.specs.Operations.{row_limit};
 ghost use Rattle.operations.specs.Operations as model;
 ghost use Rattle.operations.specs.Stored.{answer_of};
-ghost use Rattle.operations.specs.PairRules.{Numbered};
-ghost use Rattle.replay.specs.Replay.{rows_of, next_named, answer_named};
+ghost use Rattle.replay.specs.Replay.{next_named, answer_named};
 ghost use Rattle.store.specs.Store.{object_count, entry_limit};
 ghost use Rattle.store.specs.Layout.{BookLong, Packed, base, encode, decode};
 ghost use Rattle.store.specs.Soundness.{Room};
 ghost use Rattle.entry_log.specs.Log.{StoredAs};
-ghost use Rattle.protocol.specs.Calls.{operations_in, requested as Requested, answer_to, entered, run_all, answers_to};
-ghost use Rattle.protocol.specs.Calls.{operation_words, awaited};
+ghost use Rattle.protocol.specs.Calls.{operations_in, answer_to, entered, run_all, answers_to};
+ghost use Rattle.protocol.specs.Calls.{awaited};
 ghost use Rattle.protocol.specs.Terms.{BatchAccepted};
-ghost use Rattle.protocol.proofs.Laws.Lent.{lent_at};
 ghost use Rattle.protocol.specs.ReplyOf.{filled};
-ghost use Rattle.batches.specs.Batches.{Enterable, OwnEntry, Carried};
+ghost use Rattle.batches.specs.Batches.{Enterable, OwnEntry, Carried, Advanced, rows_in};
 
 use operations::{Answer, Operation};
-use protocol::OPERATION_WORDS;
-
-// None of the objects, which are numbered from 0.
-const NO_OBJECT: u32 = layout::LAST_OBJECT + 1;
+use protocol::BATCH;
 
 // One operation, answered by replay and put last in the log.
 pub fn enter(book: &mut [u32], transaction: u32, object: u32, requested: Operation) -> Answer
@@ -31,20 +26,9 @@ pub fn enter(book: &mut [u32], transaction: u32, object: u32, requested: Operati
         → (answer_of result ≡ answer_to o (decode base book.old) object)
         × (book.new ≡ encode base (entered transaction object o (decode base book.old))) }
 {
-    let answer = answers::answer(book, layout::wide(object), requested);
+    let answer = answers::answer(book, object as usize, requested);
     entry_log::append(book, transaction, object, requested, answer);
     answer
-}
-
-// The operation at place i of a batch, as it is stored.
-fn request_at(operations: &[u32], i: usize) -> Operation
-    requires { (i < length operations.now / operation_words) × Numbered (lent_at operations.now i).number }
-    ensures { StoredAs result (Requested base (lent_at operations.now i)) }
-{
-    let start = OPERATION_WORDS * i;
-    let number = operations[start + protocol::LENT_NUMBER];
-    let key = operations[start + protocol::LENT_KEY];
-    waits::request(number, key, operations[start + protocol::LENT_VALUE])
 }
 
 // All whom some operation of the batch waits for.
@@ -53,10 +37,10 @@ pub fn owners(book: &[u32], transaction: u32, operations: &[u32]) -> u64
     ensures { result ≡ awaited base transaction (decode base book.now)
         (operations_in operations.now) }
 {
+    let lent = protocol::lent(operations);
     let mut set: u64 = 0;
-    for i in 0..operations.len() / OPERATION_WORDS {
-        let requested = request_at(operations, i);
-        let object = operations[OPERATION_WORDS * i];
+    for &[object, number, key, value] in lent {
+        let requested = waits::request(number, key, value);
         set = bitset::join(set, waits::owners(book, transaction, object, requested));
     }
     set
@@ -70,67 +54,81 @@ fn is_own(book: &[u32], i: usize, transaction: u32, object: u32) -> bool
     layout::entry_transaction(book, i) == transaction && layout::entry_object(book, i) == object
 }
 
-// The copy of rows after an operation, which hands it back; and how many they are.
-fn advanced(
+// A copy of an object's rows, as replay of one transaction's entries reaches them. It goes by value from operation to
+// operation.
+#[derive(Clone, Copy)]
+struct OwnRows {
+    object: u32,
     rows: [[u32; 2]; layout::ROWS],
-    count: &mut usize,
-    operation: Operation,
-) -> [[u32; 2]; layout::ROWS]
-    requires { (count.old ≤ row_limit) × (length (next_named operation (rows_of rows count.old)) ≤ row_limit) }
-    ensures { (rows_of result count.new ≡ next_named operation (rows_of rows count.old))
-        × (count.new ≡ length (next_named operation (rows_of rows count.old))) }
-{
-    let at = replay::place(&rows, *count, operation);
-    let next = replay::next_count(&rows, *count, at, operation);
-    let after = replay::next_rows(rows, *count, at, operation);
-    *count = next;
-    after
+    count: usize,
 }
 
-// The rows that replay of the transaction's own entries on the object reaches, and how many they are. Entries of others
-// don't change the answers to requests that wait for nobody, and are left out.
-fn own_rows(
-    book: &[u32],
-    transaction: u32,
-    object: u32,
-    count: &mut usize,
-) -> [[u32; 2]; layout::ROWS]
-    requires { Packed base book.now × (object < object_count) × Room base (decode base book.now) }
-    ensures { Carried (decode base book.now) transaction object result count.new }
-{
-    let at = layout::wide(object);
-    let entries = layout::entry_count(book);
-    let mut rows = layout::copied_rows(book, at);
-    let mut reached = layout::row_count(book, at);
-    for i in 0..entries {
-        if is_own(book, i, transaction, object) {
-            let logged = layout::entry_operation(book, i);
-            let next = advanced(rows, &mut reached, logged);
-            rows = next;
+impl OwnRows {
+    // After the entries that the log has. Entries of others don't change the answers to requests that wait for nobody,
+    // and are left out.
+    fn logged(book: &[u32], transaction: u32, object: u32) -> OwnRows
+        requires { Packed base book.now × (object < object_count) × Room base (decode base book.now) }
+        ensures { Carried (decode base book.now) transaction object result }
+    {
+        let at = object as usize;
+        let mut copy = OwnRows {
+            object,
+            rows: layout::copied_rows(book, at),
+            count: layout::row_count(book, at),
+        };
+        // By index, as entries are words of the book.
+        for i in 0..layout::entry_count(book) {
+            if is_own(book, i, transaction, object) {
+                copy = copy.after(layout::entry_operation(book, i));
+            }
+        }
+        copy
+    }
+
+    // The copy that is carried, or one of another object.
+    fn carried_or_logged(
+        carried: Option<OwnRows>,
+        book: &[u32],
+        transaction: u32,
+        object: u32,
+    ) -> OwnRows
+        requires { Packed base book.now × (object < object_count) × Room base (decode base book.now)
+            × IfSome carried (λ copy. Carried (decode base book.now) transaction copy.object copy) }
+        ensures { Carried (decode base book.now) transaction object result }
+    {
+        match carried {
+            Some(copy) if copy.object == object => copy,
+            _ => OwnRows::logged(book, transaction, object),
         }
     }
-    *count = reached;
-    rows
-}
 
-// What the rows answer an operation.
-fn answered(rows: &[[u32; 2]; layout::ROWS], count: usize, operation: Operation) -> Answer
-    requires { count ≤ row_limit }
-    ensures { answer_of result ≡ answer_named operation (rows_of rows.now count) }
-{
-    let at = replay::place(rows, count, operation);
-    replay::answer(rows, count, at, operation)
+    // What the rows answer an operation.
+    fn answer(&self, operation: Operation) -> Answer
+        requires { self.now.count ≤ row_limit }
+        ensures { answer_of result ≡ answer_named operation (rows_in self.now) }
+    {
+        let at = replay::place(&self.rows, self.count, operation);
+        replay::answer(&self.rows, self.count, at, operation)
+    }
+
+    fn after(self, operation: Operation) -> OwnRows
+        requires { (self.count ≤ row_limit) × (length (next_named operation (rows_in self)) ≤ row_limit) }
+        ensures { Advanced self operation result }
+    {
+        let at = replay::place(&self.rows, self.count, operation);
+        OwnRows {
+            object: self.object,
+            rows: replay::next_rows(self.rows, self.count, at, operation),
+            count: replay::next_count(&self.rows, self.count, at, operation),
+        }
+    }
 }
 
 // Entered one after the other, each seeing those before it. The copy of an object's rows goes through its operations,
 // and is made anew where the object changes. It is not inlined, so that the check of soundness, which takes the most
 // stack, does not stand on its copies.
 #[inline(never)]
-pub fn enter_each(
-    book: &mut [u32],
-    transaction: u32,
-    operations: &[u32],
-) -> [Answer; protocol::BATCH]
+pub fn enter_each(book: &mut [u32], transaction: u32, operations: &[u32]) -> [Answer; BATCH]
     requires { BatchAccepted base book.old transaction operations.now
         × (awaited base transaction (decode base book.old) (operations_in operations.now) ≡ 0) }
     ensures { (book.new
@@ -139,23 +137,16 @@ pub fn enter_each(
         × (map answer_of result ≡ filled (answers_to base transaction (operations_in operations.now)
         (decode base book.old))) }
 {
-    let mut answers = [Answer { code: 0, value: 0 }; protocol::BATCH];
-    let mut rows = [[0u32; 2]; layout::ROWS];
-    let mut count: usize = 0;
-    let mut carried = NO_OBJECT;
-    for i in 0..operations.len() / OPERATION_WORDS {
-        let requested = request_at(operations, i);
-        let object = operations[OPERATION_WORDS * i];
-        if object != carried {
-            let fresh = own_rows(book, transaction, object, &mut count);
-            rows = fresh;
-            carried = object;
-        }
-        let answer = answered(&rows, count, requested);
-        let next = advanced(rows, &mut count, requested);
-        rows = next;
+    let lent = protocol::lent(operations);
+    let mut answers = [Answer { code: 0, value: 0 }; BATCH];
+    let mut carried: Option<OwnRows> = None;
+    for (i, &[object, number, key, value]) in lent.iter().enumerate() {
+        let requested = waits::request(number, key, value);
+        let copy = OwnRows::carried_or_logged(carried, book, transaction, object);
+        let answer = copy.answer(requested);
         entry_log::append(book, transaction, object, requested, answer);
         answers[i] = answer;
+        carried = Some(copy.after(requested));
     }
     answers
 }

@@ -2,10 +2,10 @@
 -- their members, by predicates that tell them, and one by one.
 use Rattle.std.specs.Prelude.{◌≡◌, Bool, cond, ◌&&◌, ◌||◌, ◌↔◌, ◌⊎◌, length}
 use Rattle.std.proofs.Math.Path.{refl, ap, ap₂}
-use Rattle.std.proofs.Common.{sym, ◌∙◌, subst, true≢false, inl, inr, zero-lt-suc, not-suc-le-zero, lt_of_not-le}
+use Rattle.std.proofs.Common.{sym, ◌∙◌, true≢false, inl, inr, zero-lt-suc, not-suc-le-zero, lt_of_not-le}
 use Rattle.std.proofs.Common.{lt_of_lt_of_le, mod-lt, mod-eq_of_lt, one-mul, eq-or-lt_of_le, pow-suc, div-one, one-add}
 use Rattle.std.proofs.Common.{add-one, arith, eqb-true, eq-eqb, ne_eqb, pow_mono, shr-shr}
-use mathlib.Core.List.{List, ◌∷◌}
+use mathlib.Core.List.{List, [], ◌∷◌}
 use Rattle.std.proofs.Math.Bool.{true, false, not, and-eq-true_iff, and-true, and-false}
 use Rattle.std.proofs.lemmas.Bool.{false≢true, eqb-false, not-true}
 use mathlib.Mathlib.Data.Bool.Basic.{eq-false_of_not-eq-true}
@@ -280,12 +280,6 @@ below_64 s below =
     let member : In s (64 + h) = ap (λ (n : ℕ). eqb (n % 2) 1) (sym (shr-shr s 64 h)) ∙ m in
     omega (arith, below (64 + h) member))
 
--- A set without one of its members is less as a number, so that a walk over the members ends.
-pub rest_less : (r s t : ℕ) → Members r (λ h. has s h && not (eqb h t)) → In s t → r < s
-rest_less r s t rest member =
-    part_less r s (λ h m. ((in_rest r s t rest h).0 m).0)
-    (λ (e : r ≡ s). ((in_rest r s t rest t).0 (subst (λ (x : ℕ). In x t) (sym e) member)).1 refl)
-
 -- ---- The members one by one
 
 -- From h on they are as many as the ones of the set shifted by h.
@@ -339,3 +333,13 @@ module _ (s r t : ℕ) (member : has s t ≡ true) (rest : Members r (λ h. has 
 pub lowest_first : (s r t : ℕ) → Lowest s t → Members r (λ h. has s h && not (eqb h t)) → members s ≡ t ∷ members r
 unfolding members
 lowest_first s r t l rest = first_from s r t l.member rest 64 0 (omega arith) l.below l.least
+
+-- Nobody is listed of the empty set.
+none_from : (n h : ℕ) → members_from n h 0 ≡ []
+unfolding members_from
+none_from zero h = refl
+none_from (suc n) h = rw (no_member h) (none_from n (suc h))
+
+pub none_listed : (s : ℕ) → s ≡ 0 → members s ≡ []
+unfolding members
+none_listed s e = rw e (none_from 64 0)

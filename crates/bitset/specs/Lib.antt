@@ -1,2 +1,3 @@
 pub mod Bitset
+pub mod Walk
 pub mod Laws

@@ -2,7 +2,9 @@
 #![tactic(auto)]
 
 ghost use Rattle.std.specs.Prelude.{◌≡◌, ◌&&◌, ◌||◌, not, ◌<◌, eqb};
+ghost use Rattle.std.specs.Iterator.{item_count};
 ghost use Rattle.bitset.specs.Bitset.{has, Members, Lowest, size as Size};
+ghost use Rattle.bitset.specs.Walk.{Steps, left};
 
 // The set of one transaction.
 pub fn single(transaction: u32) -> u64
@@ -62,4 +64,35 @@ pub fn size(set: u64) -> u32
     ensures { result ≡ Size set }
 {
     u64::count_ones(set)
+}
+
+// A walk over the members of a set, ascending by trailing zeros, as the paper says it: the set of those that are still
+// to come.
+#[derive(Drop)]
+pub struct Walk {
+    pub set: u64,
+}
+
+// The members one by one, for a loop.
+pub fn members(set: u64) -> Walk
+    ensures { result.set ≡ set }
+{
+    Walk { set }
+}
+
+impl Iterator for Walk {
+    type Item = u32;
+
+    ghost next_gives = { Steps };
+
+    ghost remaining = { item_count left };
+
+    fn next(&mut self) -> Option<u32> {
+        if self.set == 0 {
+            return None;
+        }
+        let member = lowest(self.set);
+        self.set = without(self.set, member);
+        Some(member)
+    }
 }

@@ -5,6 +5,7 @@ ghost use Rattle.std.specs.Prelude.{◌≤◌};
 ghost use Rattle.script.specs.Sessions.{line_kept};
 ghost use Rattle.script.specs.Feeding.{Buffers};
 
+use console::Reported;
 use std::fs::File;
 use std::io;
 use std::io::Write;
@@ -15,32 +16,29 @@ fn append(mut journal: &File, records: &[u8]) -> io::Result<()> {
     journal.sync_data()
 }
 
-// The same, where there is a journal and a record; whether that could be done.
-fn keep(rt: &HostRuntime, journal: Option<&File>, records: &[u8]) -> bool {
-    let Some(file) = journal else {
-        return true;
-    };
-    if records.is_empty() {
-        return true;
-    }
-    match append(file, records) {
-        Ok(()) => true,
-        Err(error) => {
-            console::fail(rt, b"journal", &error);
-            false
+// The same, where there is a journal and a record.
+fn keep(rt: &HostRuntime, journal: Option<&File>, records: &[u8]) -> Result<(), Reported> {
+    match journal {
+        Some(file) if !records.is_empty() => {
+            append(file, records).map_err(|error| console::fail(rt, b"journal", &error))
         }
+        _ => Ok(()),
     }
 }
 
-// Keeps records, then prints replies; whether both could be done.
-pub fn issue(rt: &HostRuntime, journal: Option<&File>, records: &[u8], replies: &[u8]) -> bool {
-    if !keep(rt, journal, records) {
-        return false;
-    }
+// Keeps records, then prints replies.
+pub fn issue(
+    rt: &HostRuntime,
+    journal: Option<&File>,
+    records: &[u8],
+    replies: &[u8],
+) -> Result<(), Reported> {
+    keep(rt, journal, records)?;
     console::print(rt, replies)
 }
 
-// Answers the lines that end in a block; whether that could be done.
+// Answers the lines that end in a block. The buffers stand beside each other, and not in a struct of arrays of 64 KB:
+// no proof of its methods was found in ten minutes.
 pub fn serve_block(
     rt: &HostRuntime,
     book: &mut [u32],
@@ -50,20 +48,21 @@ pub fn serve_block(
     out: &mut [u8],
     records: &mut [u8],
     journal: Option<&File>,
-) -> bool
+) -> Result<(), Reported>
     requires { Buffers line.old kept.old out.old records.old }
     ensures { kept.new ≤ line_kept }
 {
-    let mut at: usize = 0;
+    let mut at = 0;
     while at < block.len() {
         let progress = script::feed(book, line, *kept, &block[at..], out, records);
-        let written = progress.written;
-        let recorded = progress.recorded;
         *kept = progress.kept;
-        if !issue(rt, journal, &records[..recorded], &out[..written]) {
-            return false;
-        }
+        issue(
+            rt,
+            journal,
+            &records[..progress.recorded],
+            &out[..progress.written],
+        )?;
         at += progress.at;
     }
-    true
+    Ok(())
 }

@@ -1,5 +1,4 @@
--- Laws of replies as the C interface writes them; of the journal's exports, in a file of their own.
-pub mod Records
+-- Laws of replies as the C interface writes them.
 use Rattle.std.specs.Prelude.{ℕ, zero, suc, ◌+◌, ◌*◌, ◌≤◌, ◌<◌, ◌≡◌, refl, Bool, cond, ◌⊎◌, List, [], ◌∷◌, map, length}
 use Rattle.std.specs.Prelude.{take, drop}
 use Rattle.std.proofs.Common.{ap, ap₂, sym, ◌∙◌, inl, inr, ⊎_elim, arith, eq-eqb, ne_eqb}
@@ -7,14 +6,14 @@ use Rattle.operations.proofs.Laws.Cases.{same}
 use Rattle.store.specs.Layout.{base, decode, object_start}
 use Rattle.store.proofs.Decisions.{whether_sound}
 use Rattle.store.proofs.Laws.Reading.{kind_below}
-use Rattle.protocol.specs.Replies.{Reply, outcome, Served, served}
+use Rattle.protocol.specs.Replies.{Reply, refused, outcome, Served, served}
 use Rattle.protocol.specs.Calls as calls
 use Rattle.protocol.specs.Terms.{ContentsAccepted}
-use Rattle.protocol.proofs.Laws.Reasons.{batch_accepted, contents_accepted}
+use Rattle.protocol.proofs.Laws.Reasons.{batch_accepted, contents_accepted, said_no}
 use Rattle.protocol.proofs.Laws.Batches.{answers_counted}
 use Rattle.protocol.proofs.Laws.Lent.{lent_count}
 use Rattle.protocol.proofs.Laws.Leaving.{contents_part}
-use Rattle.scheduler.specs.Laws.Serving.{contents_refused, contents_served}
+use Rattle.scheduler.specs.Laws.Serving.{contents_served}
 use Rattle.codes.specs.Codes.{numbers_of}
 use Rattle.codes.specs.declared.Numbers.{Numbers}
 use Rattle.protocol.specs.ReplyOf.{reply_with, reply_of, batched_of, answers_in, Filled}
@@ -136,6 +135,10 @@ module _ (w : List ℕ) (o : ℕ) where
   abbrev reason : ℕ
   reason = calls.contents_reason base whether_sound w o
 
+  left_refused : (reason ≡ 0 → ⊥) → served w (outcome (refused reason) [] []) ≡ handed
+  unfolding calls.contents
+  left_refused applies = said_no reason reason refl w [] _ applies
+
   module _ (n : Numbers) (numbered : n ≡ numbers_of handed.outcome.reply) where
     -- A number of the reply, where it is known what the call left.
     number : (f : Numbers → ℕ) {s : Served} → s ≡ handed → f n ≡ f (numbers_of s.outcome.reply)
@@ -145,7 +148,7 @@ module _ (w : List ℕ) (o : ℕ) where
     no_reason none =
         same reason 0 (λ e. e)
         (λ applies. absurd (applies
-        (sym (number (λ m. m.refusal) (contents_refused w o reason refl applies)) ∙ none)))
+        (sym (number (λ m. m.refusal) (left_refused applies)) ∙ none)))
 
     is_accepted : n.refusal ≡ 0 → ContentsAccepted base w o
     is_accepted none = contents_accepted base whether_sound w o (no_reason none)
@@ -162,7 +165,7 @@ module _ (w : List ℕ) (o : ℕ) where
     pub accepted_part : n.refusal ≡ 0 → (start : ℕ) → start ≡ object_start o + 2
         → Handed w o (record { refusal = n.refusal; start = start; rows = n.rows })
     accepted_part none start at =
-        let left = contents_served w o reason refl (no_reason none) in
+        let left = contents_served w o (sym (no_reason none)) in
         let counted = number (λ m. m.rows) left in (
           starting start (at ∙ sym (ap (λ (b : Bool). cond b (object_start o + 2) 0) (eq-eqb n.refusal 0 none))),
           ap₂ (λ (k : ℕ) (start : ℕ). take (2 * k) (drop start w)) counted at
@@ -172,8 +175,7 @@ module _ (w : List ℕ) (o : ℕ) where
     pub refused_part : (n.refusal ≡ 0 → ⊥) → Handed w o (record { refusal = n.refusal; start = 0; rows = n.rows })
     refused_part applies =
         let left =
-        contents_refused w o reason refl
-        (λ none. applies (number (λ m. m.refusal) (contents_served w o reason refl none))) in (
+        left_refused (λ none. applies (number (λ m. m.refusal) (contents_served w o (sym none)))) in (
           starting 0 (sym (ap (λ (b : Bool). cond b (object_start o + 2) 0) (ne_eqb n.refusal 0 applies))),
           ap (λ (k : ℕ). take (2 * k) w) (number (λ m. m.rows) left) ∙ ap (λ (s : Served). s.outcome.rows) left,
         )

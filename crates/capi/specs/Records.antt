@@ -1,11 +1,23 @@
 -- What the structs of the journal's exports say.
-use Rattle.std.specs.Prelude.{ℕ, ◌≡◌, List, drop}
+use Rattle.std.specs.Prelude.{ℕ, ◌-◌, ◌≡◌, List, ◌++◌, length, drop, replicate}
+use Rattle.std.proofs.Math.Option.{Option, none, some}
 use Rattle.journal.specs.Groups.{Cause, cut, letter, code, owners, list, batch, long_form, width}
 use Rattle.journal.specs.Groups.{Read, found, bad, refusal_of}
 use Rattle.journal.specs.Reading.{Step, next, end, stopped}
 use Rattle.journal.specs.Coded.{record_of}
+use Rattle.capi.specs.declared.records.Written.{Written}
 use Rattle.capi.specs.declared.records.NextRecord.{NextRecord}
 use Rattle.capi.specs.declared.records.CountedRecords.{CountedRecords}
+
+-- The most bytes of a record.
+abbrev pub most_bytes : ℕ
+most_bytes = 488
+
+-- The bytes and their number, 0 in the places that they don't use; or 13 and none.
+abbrev pub handed : Option (List ℕ) → Written
+handed (some bytes) =
+    record { refusal = 0; count = length bytes; bytes = bytes ++ replicate (most_bytes - length bytes) 0 }
+handed none = record { refusal = 13; count = 0; bytes = replicate most_bytes 0 }
 
 -- The number of a cause; 0 says that there is none.
 abbrev pub cause_number : Cause → ℕ

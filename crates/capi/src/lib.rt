@@ -8,6 +8,7 @@ ghost use Rattle.store.proofs.Decisions.{whether_sound};
 ghost use Rattle.protocol.specs.Calls as calls;
 ghost use Rattle.capi.specs.Exported.{accepted, operated, ended, exported, written, written_answers, Handed};
 
+use codes::Numbers;
 use operations::Answer;
 
 mod records;
@@ -66,7 +67,7 @@ pub extern "C" fn lending_desk_set_up(book: &mut [u32], kinds: &[u8]) -> Accepte
     ensures { exported book.new [] result
         ≡ written accepted (calls.set_up base book.old kinds.now) }
 {
-    let n = codes::numbers_of(scheduler::set_up(book, kinds));
+    let n = Numbers::from(scheduler::set_up(book, kinds));
     Accepted { refusal: n.refusal }
 }
 
@@ -75,7 +76,7 @@ pub extern "C" fn lending_desk_begin(book: &mut [u32], transaction: u32) -> Acce
     ensures { exported book.new [] result
         ≡ written accepted (calls.begin base whether_sound book.old transaction) }
 {
-    let n = codes::numbers_of(scheduler::begin(book, transaction));
+    let n = Numbers::from(scheduler::begin(book, transaction));
     Accepted { refusal: n.refusal }
 }
 
@@ -92,7 +93,7 @@ pub extern "C" fn lending_desk_operate(
         ≡ written operated
         (calls.operate base whether_sound book.old transaction object operation key value) }
 {
-    let n = codes::numbers_of(scheduler::operate(book, transaction, object, operation, key, value));
+    let n = Numbers::from(scheduler::operate(book, transaction, object, operation, key, value));
     Operated {
         refusal: n.refusal,
         code: n.code,
@@ -115,7 +116,7 @@ pub extern "C" fn lending_desk_batch(
     let batched = scheduler::batch(book, transaction, operations);
     let reply = batched.reply;
     let answers = batched.answers;
-    let n = codes::numbers_of(reply);
+    let n = Numbers::from(reply);
     Batched {
         refusal: n.refusal,
         code: n.code,
@@ -130,7 +131,7 @@ pub extern "C" fn lending_desk_finish(book: &mut [u32], transaction: u32, list: 
     ensures { exported book.new list.new result
         ≡ written ended (calls.finish base whether_sound book.old transaction list.old) }
 {
-    let n = codes::numbers_of(finishing::finish(book, transaction, list));
+    let n = Numbers::from(finishing::finish(book, transaction, list));
     Ended {
         refusal: n.refusal,
         code: n.code,
@@ -143,7 +144,7 @@ pub extern "C" fn lending_desk_cancel(book: &mut [u32], transaction: u32, list: 
     ensures { exported book.new list.new result
         ≡ written ended (calls.cancel base whether_sound book.old transaction list.old) }
 {
-    let n = codes::numbers_of(finishing::cancel(book, transaction, list));
+    let n = Numbers::from(finishing::cancel(book, transaction, list));
     Ended {
         refusal: n.refusal,
         code: n.code,
@@ -155,14 +156,14 @@ pub extern "C" fn lending_desk_cancel(book: &mut [u32], transaction: u32, list: 
 pub extern "C" fn lending_desk_contents(book: &[u32], object: u32) -> Part
     ensures { Handed book.now object result }
 {
-    let n = codes::numbers_of(scheduler::contents_count(book, object));
+    let n = Numbers::from(scheduler::contents_count(book, object));
     let mut start: u32 = 0;
     if n.refusal == protocol::ACCEPTED {
-        start = layout::rows_start(layout::wide(object)) as u32;
+        start = layout::rows_start(object as usize) as u32;
     }
     Part {
         refusal: n.refusal,
-        start: start,
+        start,
         rows: n.rows,
     }
 }

@@ -5,15 +5,12 @@ ghost use Rattle.journal.specs.Records.{written};
 ghost use Rattle.journal.specs.Reading.{step, records_in};
 ghost use Rattle.journal.specs.Coded.{record_of, cause_of};
 ghost use Rattle.journal_reader.specs.Said.{count_of};
-ghost use Rattle.journal_writer.specs.Written.{handed};
-ghost use Rattle.capi.specs.Records.{cause_number, SaysNext, SaysCount};
+ghost use Rattle.capi.specs.Records.{handed, cause_number, SaysNext, SaysCount};
 
-use journal::{BAD_RECORD, Cause, Record};
-use journal_reader::{Count, Place};
-use journal_writer::Written;
+use journal::{BAD_RECORD, Cause, MOST, Record};
 use protocol::ACCEPTED;
 
-// Why a record cannot be read: 0 where it can, else the number of the cause.
+// Why a record cannot be read: 0 where it can, else the number of the cause, which C alone has.
 const NO_CAUSE: u32 = 0;
 
 const CUT: u32 = 1;
@@ -31,6 +28,15 @@ const BATCH: u32 = 6;
 const LONG_FORM: u32 = 7;
 
 const WIDTH: u32 = 8;
+
+// What write record replies: a record's bytes and their number; or 13, and none.
+#[repr(C)]
+#[derive(Drop)]
+pub struct Written {
+    pub refusal: u32,
+    pub count: usize,
+    pub bytes: [u8; MOST],
+}
 
 // What next record replies: 1 found, with the record and the place behind it; 0 at the end; or 13, the cause, and the
 // place of the letter or number that cannot be read. The content is a record only where one is found.
@@ -73,7 +79,21 @@ fn number_of(cause: Cause) -> u32
 pub extern "C" fn lending_desk_write_record(content: Record) -> Written
     ensures { result ≡ handed (written (record_of content)) }
 {
-    journal_writer::write(content)
+    let mut bytes = [0; MOST];
+    let Some(record) = journal_writer::write(&content) else {
+        return Written {
+            refusal: BAD_RECORD,
+            count: 0,
+            bytes,
+        };
+    };
+    let count = record.len();
+    bytes[..count].copy_from_slice(record.as_slice());
+    Written {
+        refusal: ACCEPTED,
+        count,
+        bytes,
+    }
 }
 
 #[unsafe(no_mangle)]
@@ -81,30 +101,27 @@ pub extern "C" fn lending_desk_next_record(bytes: &[u8], at: usize) -> NextRecor
     ensures { SaysNext bytes.now result (step (drop at bytes.now))
         × (result.place ≤ length bytes.now) }
 {
-    let reading = journal_reader::next(bytes, at);
-    let there = reading.place;
-    let content = reading.content;
-    match there {
-        Place::Behind(place) => NextRecord {
+    match journal_reader::next(bytes, at) {
+        Ok(Some((content, place))) => NextRecord {
             refusal: ACCEPTED,
             found: 1,
             cause: NO_CAUSE,
             place,
             content,
         },
-        Place::End => NextRecord {
+        Ok(None) => NextRecord {
             refusal: ACCEPTED,
             found: 0,
             cause: NO_CAUSE,
             place: 0,
-            content,
+            content: Record::EMPTY,
         },
-        Place::Bad(cause, place) => NextRecord {
+        Err(damage) => NextRecord {
             refusal: BAD_RECORD,
             found: 0,
-            cause: number_of(cause),
-            place,
-            content,
+            cause: number_of(damage.cause),
+            place: damage.place,
+            content: Record::EMPTY,
         },
     }
 }
@@ -114,18 +131,17 @@ pub extern "C" fn lending_desk_count_records(bytes: &[u8]) -> CountedRecords
     ensures { SaysCount bytes.now result (count_of (records_in bytes.now))
         × (result.place ≤ length bytes.now) }
 {
-    let count = journal_reader::read(bytes);
-    match count {
-        Count::Records(records) => CountedRecords {
+    match journal_reader::read(bytes) {
+        Ok(records) => CountedRecords {
             refusal: ACCEPTED,
             cause: NO_CAUSE,
             place: 0,
             records,
         },
-        Count::Bad(cause, place) => CountedRecords {
+        Err(damage) => CountedRecords {
             refusal: BAD_RECORD,
-            cause: number_of(cause),
-            place,
+            cause: number_of(damage.cause),
+            place: damage.place,
             records: 0,
         },
     }

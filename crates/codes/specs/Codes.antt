@@ -16,7 +16,7 @@ numbers refusal code owners answer value count rows =
     }
 
 -- Of a reply that counts those in the list.
-abbrev pub listed : (code count : ℕ) → Numbers
+abbrev listed : (code count : ℕ) → Numbers
 listed code count = numbers 0 code 0 0 0 count 0
 
 -- The numbers of a reply, those that it doesn't have 0: the reason for saying no; the reply code of 02, No. 3; of a

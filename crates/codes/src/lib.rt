@@ -3,9 +3,11 @@
 
 ghost use Rattle.std.specs.Prelude.{◌≡◌};
 ghost use Rattle.protocol.specs.ReplyOf.{reply_of};
-ghost use Rattle.codes.specs.Codes.{numbers_of as NumbersOf, listed as Listed};
+ghost use Rattle.codes.specs.Codes.{numbers_of};
 
 use protocol::Reply;
+
+// Numbers that C reads, and journals have.
 
 pub const WAIT: u32 = 0;
 
@@ -31,53 +33,63 @@ pub struct Numbers {
     pub rows: u32,
 }
 
-// Of a reply that counts those in the list.
-fn listed(code: u32, count: u32) -> Numbers
-    ensures { result ≡ Listed code count }
-{
-    Numbers {
-        refusal: protocol::ACCEPTED,
-        code: code,
-        owners: 0,
-        answer: 0,
-        value: 0,
-        count: count,
-        rows: 0,
-    }
-}
-
 // What a reply does not have is 0, and 0 is the code of a wait too.
-pub fn numbers_of(reply: Reply) -> Numbers
-    ensures { result ≡ NumbersOf (reply_of reply) }
-{
-    let mut n = Numbers {
-        refusal: protocol::ACCEPTED,
-        code: WAIT,
-        owners: 0,
-        answer: 0,
-        value: 0,
-        count: 0,
-        rows: 0,
-    };
-    match reply {
-        Reply::Ok => {}
-        Reply::Wait(owners, count) => {
-            n.owners = owners;
-            n.count = count;
+const ZERO: Numbers = Numbers {
+    refusal: protocol::ACCEPTED,
+    code: WAIT,
+    owners: 0,
+    answer: 0,
+    value: 0,
+    count: 0,
+    rows: 0,
+};
+
+impl From<Reply> for Numbers {
+    ghost from_gives = { λ reply numbers. numbers ≡ numbers_of (reply_of reply) };
+
+    fn from(reply: Reply) -> Numbers {
+        match reply {
+            Reply::Ok => ZERO,
+            Reply::Wait(owners, count) => Numbers {
+                owners,
+                count,
+                ..ZERO
+            },
+            Reply::Answered(answer, value) => Numbers {
+                code: ANSWERED,
+                answer,
+                value,
+                ..ZERO
+            },
+            // They stand beside the numbers.
+            Reply::Answers => Numbers {
+                code: ANSWERED,
+                ..ZERO
+            },
+            Reply::Finished => Numbers {
+                code: FINISHED,
+                ..ZERO
+            },
+            Reply::Committed(count) => Numbers {
+                code: COMMITTED,
+                count,
+                ..ZERO
+            },
+            Reply::Circle(count) => Numbers {
+                code: CIRCLE,
+                count,
+                ..ZERO
+            },
+            Reply::Cancelled(count) => Numbers {
+                code: CANCELLED,
+                count,
+                ..ZERO
+            },
+            Reply::Counted(rows) => Numbers { rows, ..ZERO },
+            Reply::Refused(reason) => Numbers {
+                refusal: reason.number(),
+                ..ZERO
+            },
         }
-        Reply::Answered(code, value) => {
-            n.code = ANSWERED;
-            n.answer = code;
-            n.value = value;
-        }
-        // They stand beside the numbers.
-        Reply::Answers => n.code = ANSWERED,
-        Reply::Finished => n.code = FINISHED,
-        Reply::Committed(count) => n = listed(COMMITTED, count),
-        Reply::Circle(count) => n = listed(CIRCLE, count),
-        Reply::Cancelled(count) => n = listed(CANCELLED, count),
-        Reply::Counted(rows) => n.rows = rows,
-        Reply::Refused(reason) => n.refusal = reason,
     }
-    n
 }

@@ -3,8 +3,12 @@
 
 use arrayvec::ArrayString;
 use std::fmt::Write;
-use std::io::{Error, ErrorKind};
+use std::io::Error;
 use std::os::fd::AsFd;
+
+// That something failed, or can't go on; why was said, where it could be.
+#[derive(Drop)]
+pub struct Reported;
 
 // The bytes of a buffer: so many are read at once, and room is for so many to be printed or kept.
 pub const BUFFER: usize = 65_536;
@@ -34,15 +38,10 @@ fn put_reason(rt: &HostRuntime, error: &Error) {
     put(rt, reason_in(shown.as_str()).as_bytes());
 }
 
-// Prints all of a text, or says on standard error that it cannot.
-pub fn print(rt: &HostRuntime, text: &[u8]) -> bool {
-    match rt.write_all(text) {
-        Ok(()) => true,
-        Err(error) => {
-            fail(rt, b"standard output", &error);
-            false
-        }
-    }
+// Prints all of a text.
+pub fn print(rt: &HostRuntime, text: &[u8]) -> Result<(), Reported> {
+    rt.write_all(text)
+        .map_err(|error| fail(rt, b"standard output", &error))
 }
 
 // Says a line on standard error.
@@ -52,31 +51,24 @@ pub fn say(rt: &HostRuntime, text: &[u8]) {
 }
 
 // Says on standard error what failed, with the system's reason.
-pub fn fail(rt: &HostRuntime, what: &[u8], error: &Error) {
+pub fn fail(rt: &HostRuntime, what: &[u8], error: &Error) -> Reported {
     put(rt, b"lending_desk: ");
     put(rt, what);
     put(rt, b": ");
     put_reason(rt, error);
     put(rt, b"\n");
-}
-
-// A read failed: whether a signal interrupted it. If not, that is said on standard error.
-pub fn interrupted(rt: &HostRuntime, what: &[u8], error: &Error) -> bool {
-    let is_interrupted = error.kind() == ErrorKind::Interrupted;
-    if !is_interrupted {
-        fail(rt, what, error);
-    }
-    is_interrupted
+    Reported
 }
 
 // Says something of a file, and a place in it, on standard error.
-pub fn tell(rt: &HostRuntime, path: &[u8], what: &[u8], place: u64) {
+pub fn tell(rt: &HostRuntime, path: &[u8], what: &[u8], place: u64) -> Reported {
     put(rt, b"lending_desk: ");
     put(rt, path);
     put(rt, b": ");
     put(rt, what);
     put(rt, b" at byte ");
     let _ = rt.eprintln(place);
+    Reported
 }
 
 // Whether a file is open under a number. Only the system can tell: it is asked for a second number, which is closed
@@ -90,18 +82,18 @@ fn is_open<F: AsFd>(file: &F) -> bool {
 
 // Whether standard input, output and error are open: a file opened else would get the number of one that isn't. Which
 // isn't is said where it can be.
-pub fn are_open(rt: &HostRuntime) -> bool {
+pub fn are_open(rt: &HostRuntime) -> Result<(), Reported> {
     if !is_open(&rt.stderr()) {
         let _ = rt.write_all(b"lending_desk: standard error is closed\n");
-        return false;
+        return Err(Reported);
     }
     if !is_open(&rt.stdin()) {
         say(rt, b"lending_desk: standard input is closed");
-        return false;
+        return Err(Reported);
     }
-    let is_out = is_open(&rt.stdout());
-    if !is_out {
+    if !is_open(&rt.stdout()) {
         say(rt, b"lending_desk: standard output is closed");
+        return Err(Reported);
     }
-    is_out
+    Ok(())
 }

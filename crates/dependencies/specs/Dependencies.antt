@@ -1,7 +1,11 @@
 -- Pairs of log entries that do not commute, or of which the later is not recoverable against the earlier, by index;
 -- and sets of the owners of entries.
 use Rattle.std.specs.Prelude.{ℕ, ◌+◌, ◌<◌, ◌≡◌, Bool, true, false, not, ◌&&◌, ◌||◌, cond, ◌⊎◌, List, [], eqb, length}
-use Rattle.std.specs.Prelude.{get_or}
+use Rattle.std.specs.Prelude.{get_or, ltb, Option, Some}
+use Rattle.std.specs.Bool.{then_some}
+use Rattle.dependencies.specs.declared.Blockers.{Blockers}
+use Rattle.dependencies.specs.declared.Entry.{Entry}
+use Rattle.dependencies.specs.declared.Rows.{Rows}
 use Rattle.operations.specs.Operations.{Kind, Operation}
 use Rattle.operations.specs.PairRules.{Rule, always, never, apart, equal, agreeing, Rules, rule_at}
 use Rattle.operations.specs.PairRules.{Numbered, kind_numbered, recoverable, commutes, recoverable_rules}
@@ -13,8 +17,8 @@ use Rattle.representatives.specs.Representatives.{entry_transaction, entry_objec
 use Rattle.representatives.specs.Representatives.{Alike, AlikeBy, First, FirstBy}
 
 -- Some number below n is such.
-abbrev pub Some : (ℕ → Type 0) → ℕ → Type 0
-Some P n = (i : ℕ) × (i < n) × P i
+abbrev pub SomeBelow : (ℕ → Type 0) → ℕ → Type 0
+SomeBelow P n = (i : ℕ) × (i < n) × P i
 
 -- ---- Pairs that fail
 
@@ -26,16 +30,16 @@ pub record Fails (related : Operation → Operation → Bool) (w : List ℕ) (i 
 
 -- Transaction b has such an entry before entry i.
 abbrev pub Bars : (Operation → Operation → Bool) → List ℕ → ℕ → ℕ → Type 0
-Bars related w i b = Some (λ j. (entry_transaction w j ≡ b) × Fails related w i j) i
+Bars related w i b = SomeBelow (λ j. (entry_transaction w j ≡ b) × Fails related w i j) i
 
 -- The owners of such entries, of both relations.
-pub record Barred (w : List ℕ) (i unrecoverable conflicting : ℕ) : Type 0 where
-  pub unrecoverables : Holds unrecoverable (Bars recoverable w i)
-  pub conflictings : Holds conflicting (Bars commutes w i)
+pub record Barred (w : List ℕ) (i : ℕ) (found : Blockers) : Type 0 where
+  pub unrecoverables : Holds found.unrecoverable (Bars recoverable w i)
+  pub conflictings : Holds found.conflicting (Bars commutes w i)
 
 -- An entry of transaction a, below n, is barred by transaction b.
 abbrev pub BarsBelow : (Operation → Operation → Bool) → List ℕ → ℕ → ℕ → ℕ → Type 0
-BarsBelow related w n a b = Some (λ i. (entry_transaction w i ≡ a) × Bars related w i b) n
+BarsBelow related w n a b = SomeBelow (λ i. (entry_transaction w i ≡ a) × Bars related w i b) n
 
 -- The owners that bar entries below n from being recoverable.
 abbrev pub Unrecoverable : List ℕ → ℕ → ℕ → Type 0
@@ -65,52 +69,64 @@ picked_at rules number whole same others m =
 
 -- Transaction b is picked at a column below n.
 abbrev pub Picked : (Kind → Rules) → ℕ → List ℕ → List ℕ → ℕ → ℕ → ℕ → Type 0
-Picked rules number whole same others n b = Some (λ m. has (picked_at rules number whole same others m) b ≡ true) n
+Picked rules number whole same others n b = SomeBelow (λ m. has (picked_at rules number whole same others m) b ≡ true) n
 
 -- Those picked for a requested operation, by both tables of its kind.
-pub record PickedBoth (number : ℕ) (whole same : List ℕ) (others unrecoverable conflicting : ℕ) : Type 0 where
-  pub unrecoverables : Holds unrecoverable (Picked recoverable_rules number whole same others (width_of number))
-  pub conflictings : Holds conflicting (Picked commuting_rules number whole same others (width_of number))
+pub record PickedBoth (number : ℕ) (whole same : List ℕ) (others : ℕ) (found : Blockers) : Type 0 where
+  pub unrecoverables : Holds found.unrecoverable (Picked recoverable_rules number whole same others (width_of number))
+  pub conflictings : Holds found.conflicting (Picked commuting_rules number whole same others (width_of number))
+
+-- Two such pairs of sets, joined,
+abbrev pub JoinedBoth : Blockers → Blockers → Blockers → Type 0
+JoinedBoth some others r =
+    Members r.unrecoverable (λ b. has some.unrecoverable b || has others.unrecoverable b)
+    × Members r.conflicting (λ b. has some.conflicting b || has others.conflicting b)
+
+-- and one without a transaction.
+abbrev pub WithoutBoth : ℕ → Blockers → Blockers → Type 0
+WithoutBoth t found r =
+    Members r.unrecoverable (λ b. has found.unrecoverable b && not (eqb b t))
+    × Members r.conflicting (λ b. has found.conflicting b && not (eqb b t))
 
 -- What is read of entry i.
-pub record EntryRead (w : List ℕ) (i transaction object number : ℕ) : Type 0 where
-  pub of_transaction : transaction ≡ entry_transaction w i
-  pub of_object : object ≡ entry_object w i
-  pub of_number : number ≡ entry_number w i
-  pub live : transaction < 64
-  pub within : object < 16
-  pub numbered : Numbered number
+pub record EntryRead (w : List ℕ) (i : ℕ) (entry : Entry) : Type 0 where
+  pub of_transaction : entry.transaction ≡ entry_transaction w i
+  pub of_object : entry.object ≡ entry_object w i
+  pub of_number : entry.number ≡ entry_number w i
+  pub live : entry.transaction < 64
+  pub within : entry.object < 16
+  pub numbered : Numbered entry.number
 
 -- ---- Owners of the entries so far
 
 -- Transaction b has an entry below n, such a one,
 abbrev pub Owner : (ℕ → Type 0) → List ℕ → ℕ → ℕ → Type 0
-Owner P w n b = Some (λ j. P j × (entry_transaction w j ≡ b)) n
+Owner P w n b = SomeBelow (λ j. P j × (entry_transaction w j ≡ b)) n
 
 -- one whose operation stands at column m,
 abbrev pub Owned : (ℕ → ℕ) → (ℕ → Type 0) → List ℕ → ℕ → ℕ → ℕ → Type 0
-Owned column P w n m b = Some (λ j. P j × (column (entry_number w j) ≡ m) × (entry_transaction w j ≡ b)) n
+Owned column P w n m b = SomeBelow (λ j. P j × (column (entry_number w j) ≡ m) × (entry_transaction w j ≡ b)) n
 
 -- one with another item than x, or another value,
 abbrev pub Differing : (ℕ → Type 0) → (ℕ → ℕ) → ℕ → List ℕ → ℕ → ℕ → Type 0
-Differing P item x w n b = Some (λ j. P j × (item j ≡ x → ⊥) × (entry_transaction w j ≡ b)) n
+Differing P item x w n b = SomeBelow (λ j. P j × (item j ≡ x → ⊥) × (entry_transaction w j ≡ b)) n
 
 -- and two with different ones.
 abbrev pub Varied : (ℕ → Type 0) → (ℕ → ℕ) → List ℕ → ℕ → ℕ → Type 0
-Varied P item w n b = Some (λ j. P j × (entry_transaction w j ≡ b) × Differing P item (item j) w n b) n
+Varied P item w n b = SomeBelow (λ j. P j × (entry_transaction w j ≡ b) × Differing P item (item j) w n b) n
 
 -- A row has a set for each column, with the members that a relation tells.
 pub record OwnersRow (n : ℕ) (row : List ℕ) (R : ℕ → ℕ → Type 0) : Type 0 where
   pub columns : length row ≡ n
   pub sets : Represents row R
 
--- A row of n columns, with more members at column m where a condition holds.
-abbrev pub Added : Type 0 → ℕ → List ℕ → ℕ → (ℕ → Type 0) → List ℕ → Type 0
-Added condition n row m Q r = OwnersRow n r (λ k b. In (get_or row k 0) b ⊎ (condition × (m ≡ k) × Q b))
+-- A row of n columns, with more members at the column that is told, if one is.
+abbrev pub Joined : ℕ → List ℕ → Option ℕ → ℕ → List ℕ → Type 0
+Joined n row at more r = OwnersRow n r (λ k b. In (get_or row k 0) b ⊎ ((at ≡ Some k) × In more b))
 
--- One owner more, where there is such a column.
-abbrev pub WithOwner : ℕ → List ℕ → ℕ → ℕ → List ℕ → Type 0
-WithOwner n row m t r = Added (m < n) n row m (λ b. t ≡ b) r
+-- Column m, where a row of n columns has it.
+abbrev pub column_in : ℕ → ℕ → Option ℕ
+column_in n m = then_some (ltb m n) m
 
 abbrev pub On : List ℕ → ℕ → ℕ → Type 0
 On w o j = entry_object w j ≡ o
@@ -135,14 +151,14 @@ KeyRow w i n m b = Owned key_column (AlikeByKey w i) w n m b ⊎ ((3 ≡ m) × V
 
 -- Of the entries below n: the row of each object; at j that of the entries like entry j, where that is the first with
 -- its object and key; and at j the owners of those like it with its value too, where that is the first such modify.
-pub record Gathered (w : List ℕ) (n : ℕ) (whole same : List (List ℕ)) (alike : List ℕ) : Type 0 where
-  pub objects : length whole ≡ 16
-  pub entries : length same ≡ 256
-  pub values : length alike ≡ 256
-  pub on_object : (o : ℕ) → o < 16 → OwnersRow 6 (get_or whole o []) (ObjectRow w o n)
-  pub represented : (j : ℕ) → j < 256 → First w j → OwnersRow 4 (get_or same j []) (KeyRow w j n)
+pub record Gathered (w : List ℕ) (n : ℕ) (rows : Rows) : Type 0 where
+  pub objects : length rows.objects ≡ 16
+  pub entries : length rows.keys ≡ 256
+  pub values : length rows.values ≡ 256
+  pub on_object : (o : ℕ) → o < 16 → OwnersRow 6 (get_or rows.objects o []) (ObjectRow w o n)
+  pub represented : (j : ℕ) → j < 256 → First w j → OwnersRow 4 (get_or rows.keys j []) (KeyRow w j n)
   pub twins : (j : ℕ) → j < 256 → entry_number w j ≡ 11 → FirstBy true w j
-      → Holds (get_or alike j 0) (Owner (AlikeBy true w j) w n)
+      → Holds (get_or rows.values j 0) (Owner (AlikeBy true w j) w n)
 
 -- ---- Those with another item or value
 
@@ -164,6 +180,5 @@ pub record Found (number : ℕ) (whole same : List ℕ) (alike r : ℕ) : Type 0
   pub modifies : number ≡ 11 → Beside r (get_or same 3 0) (get_or same 2 0) alike
 
 -- The owners that bar entry i, and the rows with its own owner.
-abbrev pub Entered : List ℕ → ℕ → ℕ → ℕ → List (List ℕ) → List (List ℕ) → List ℕ → Type 0
-Entered w i unrecoverable conflicting whole same alike =
-    Barred w i unrecoverable conflicting × Gathered w (i + 1) whole same alike
+abbrev pub Entered : List ℕ → ℕ → Blockers → Rows → Type 0
+Entered w i found rows = Barred w i found × Gathered w (i + 1) rows

@@ -1,107 +1,76 @@
-// A line of a script, served: its reply put into a buffer, and its record into another.
+// A line of a script, served: its reply as it is printed, and its record.
 #![tactic(auto)]
 
-ghost use Rattle.std.specs.Prelude.{◌≡◌, true, [], ◌+◌, ◌≤◌, length};
-ghost use Rattle.text.specs.Fields.{Put};
-ghost use Rattle.journal.specs.Records.{shaped};
-ghost use Rattle.journal.specs.Coded.{record_of};
-ghost use Rattle.journal.specs.Journal.{noted};
-ghost use Rattle.serving.specs.Told.{said_of};
-ghost use Rattle.recording.specs.Recording.{made as Made·is};
-ghost use Rattle.dispatch.specs.Served.{text_of, records_of, line_served};
-ghost use Rattle.dispatch.specs.Replying.{most_reply, most_printed, most_recorded, Printable, call_asked};
-ghost use Rattle.dispatch.specs.Replying.{Recordable, Kept, Answered};
+ghost use Rattle.std.specs.Prelude.{◌≡◌, true, [], ◌≤◌};
+ghost use Rattle.arrayvec.specs.ArrayVec.{array_vec_len};
+ghost use Rattle.text.specs.Text.{ascii};
+ghost use Rattle.lines.specs.Coded.{call_of};
+ghost use Rattle.replies.specs.Printed.{printed};
+ghost use Rattle.serving.specs.Told.{outcome_of, FilledIn};
+ghost use Rattle.journal.specs.Journal.{record_of as RecordOf, noted};
+ghost use Rattle.recording.specs.Recording.{given_to};
+ghost use Rattle.dispatch.specs.Served.{line_served};
+ghost use Rattle.dispatch.specs.Replying.{most_reply, Kept, Answered};
 
-use lines::Line;
-use recording::Made;
-use serving::{Said, Told};
+use arrayvec::ArrayVec;
+use lines::Call;
+use serving::Told;
 
-// Where a line's reply ends, with its line feed, and where its record does.
+// What a line gets: its reply with a line feed, and the bytes of its record.
 #[derive(Drop)]
-pub struct Ends {
-    pub written: usize,
-    pub recorded: usize,
+pub struct Output {
+    pub reply: ArrayVec<u8, { replies::MOST }>,
+    pub record: Option<ArrayVec<u8, { journal::MOST }>>,
 }
 
-// Puts what is said to a line.
-fn put_text(out: &mut [u8], at: usize, told: Told) -> usize
-    requires { (at + most_reply ≤ length out.old) × Printable told }
-    ensures { Put out.old at (text_of (said_of told told.said)) out.new result
-        × (result ≤ at + most_reply) }
+// What is told of a call, as it is printed.
+fn text_of(told: &Told) -> ArrayVec<u8, { replies::MOST }>
+    requires { FilledIn told.now }
+    ensures text { result.items ≡ printed (outcome_of told.now).reply (outcome_of told.now).list }
+    ensures few { array_vec_len result ≤ most_reply }
 {
-    let said = told.said;
-    let list = told.list;
-    match said {
-        Said::Unread => text::put(out, at, b"unread"),
-        Said::Read(reply, listed) => replies::put_reply(out, at, reply, &list[..listed]),
-        Said::Batch(_, _) => replies::put_batched(out, at, told.batched),
+    let mut text = ArrayVec::new();
+    match told {
+        Told::Plain(reply) => replies::put_reply(&mut text, *reply, b""),
+        Told::Listed(reply, list) => replies::put_reply(&mut text, *reply, list),
+        Told::Answered(batched) => replies::put_batched(&mut text, *batched),
     }
+    text
 }
 
-// Puts a record, where there is one.
-fn put_made(journal: &mut [u8], at: usize, made: Made) -> usize
-    requires { (at + most_recorded ≤ length journal.old)
-        × (made.is ≡ true → shaped (record_of made.content) ≡ true) }
-    ensures { Kept (noted (Made·is made) []) journal.old at journal.new result }
+// What is said to a line that is no call.
+fn unread() -> ArrayVec<u8, { replies::MOST }>
+    ensures { result.items ≡ ascii "unread\n" }
 {
-    if !made.is {
-        return at;
-    }
-    let content = made.content;
-    let written = journal_writer::write(content);
-    let count = written.count;
-    let bytes = written.bytes;
-    text::put(journal, at, &bytes[..count])
+    let mut text = ArrayVec::new();
+    let _ = text.try_extend_from_slice(b"unread\n");
+    text
 }
 
-// Puts the record of a call that was made.
-pub fn put_record(journal: &mut [u8], at: usize, asked: Line, told: Told) -> usize
-    requires { (at + most_recorded ≤ length journal.old) × Recordable asked told }
-    ensures { Kept (records_of (call_asked asked) (said_of told told.said)) journal.old at
-        journal.new result }
+// The bytes of the record of a call that was made.
+pub fn record_of(call: &Call, told: &Told) -> Option<ArrayVec<u8, { journal::MOST }>>
+    requires given { given_to (call_of call.now) (outcome_of told.now).reply ≡ true }
+    requires filled { FilledIn told.now }
+    ensures { Kept (noted (RecordOf (call_of call.now) (outcome_of told.now)) []) result }
 {
-    let said = told.said;
-    let list = told.list;
-    let operations = asked.operations;
-    match said {
-        Said::Unread => at,
-        Said::Read(reply, listed) => {
-            put_made(
-                journal,
-                at,
-                recording::record_of(asked, reply, &list[..listed]),
-            )
-        }
-        Said::Batch(transaction, words) => {
-            let batched = told.batched;
-            put_made(
-                journal,
-                at,
-                recording::record_of_batch(transaction, &operations[..words], batched),
-            )
-        }
-    }
+    journal_writer::write(&recording::record_of(call, told)?)
 }
 
-// Serves a line. Its reply goes to a place of one buffer, and its record to a place of the other.
-pub fn reply_line(
-    book: &mut [u32],
-    line: &[u8],
-    out: &mut [u8],
-    at: usize,
-    journal: &mut [u8],
-    behind: usize,
-) -> Ends
-    requires { (at + most_printed ≤ length out.old) × (behind + most_recorded ≤ length journal.old) }
-    ensures { Answered (line_served book.old line.now) book.new
-        out.old at out.new journal.old behind journal.new result }
+// Serves a line.
+pub fn reply_line(book: &mut [u32], line: &[u8]) -> Output
+    ensures { Answered (line_served book.old line.now) book.new result }
 {
-    let asked = lines::read_line(line);
-    let told = serving::serve(book, asked);
-    let recorded = put_record(journal, behind, asked, told);
-    let end = put_text(out, at, told);
-    Ends {
-        written: text::put(out, end, b"\n"),
-        recorded,
+    let Some(call) = lines::read_line(line) else {
+        return Output {
+            reply: unread(),
+            record: None,
+        };
+    };
+    let told = serving::serve(book, &call);
+    let mut reply = text_of(&told);
+    reply.push(b'\n');
+    Output {
+        reply,
+        record: record_of(&call, &told),
     }
 }

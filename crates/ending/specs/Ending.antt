@@ -1,13 +1,24 @@
 -- A book of which the dependencies are known, and what book, list and count are when transactions have ended.
-use Rattle.std.specs.Prelude.{ℕ, ◌≡◌, ◌↔◌, List, ◌++◌, length, drop}
+use Rattle.std.specs.Prelude.{ℕ, ◌+◌, ◌<◌, ◌≡◌, ◌↔◌, Option, None, Some, List, ◌++◌, length, drop}
+use Rattle.std.proofs.Math.Option as maybe
 use Rattle.bitset.specs.Bitset.{Holds, Represents}
 use Rattle.graph.specs.Edges.{EdgeIn}
 use Rattle.store.specs.Store.{pseudo_committed, Store, PseudoCommitted, pseudo_committed_count}
 use Rattle.store.specs.Steps.{with_status}
 use Rattle.store.specs.Dependency.{DependsOn}
-use Rattle.store.specs.Layout.{Packed, encode, decode, base}
+use Rattle.store.specs.Layout.{Packed, encode, decode, base, word}
 use Rattle.store.specs.Soundness.{Unsettled}
 use Rattle.protocol.specs.Ending.{Settlement}
+
+-- A transaction or none, as the code says it.
+abbrev pub named : Option ℕ → maybe.Option ℕ
+named None = maybe.none
+named (Some t) = maybe.some t
+
+-- The status word of a transaction is less than that of another, if there is another: it says a lower rank.
+abbrev pub Before : List ℕ → ℕ → Option ℕ → Type 0
+Before w t None = Unit {0}
+Before w t (Some u) = word w (1 + t) < word w (1 + u)
 
 -- As finish leaves a transaction that is neither aborted nor committed: with the next rank.
 abbrev pub pseudo_commit : ℕ → Store → Store

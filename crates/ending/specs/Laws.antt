@@ -2,7 +2,6 @@ pub mod Books
 pub mod Forgetting
 pub mod Steps
 pub mod Carrying
-pub mod Nobody
 pub mod Ready
 pub mod Settling
 pub mod Active

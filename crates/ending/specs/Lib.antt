@@ -1,3 +1,2 @@
-pub mod Nobody
 pub mod Ending
 pub mod Laws

@@ -1,21 +1,17 @@
 // How a transaction ends, and who commits then.
 #![tactic(auto)]
 
-ghost use Rattle.std.specs.Prelude.{◌≡◌, ◌<◌, ◌≤◌, length};
+ghost use Rattle.std.specs.Prelude.{◌≡◌, true, ◌↔◌, ◌<◌, ◌≤◌, length, IfSome};
 ghost use Rattle.store.specs.Store.{list_length, transaction_count, Active, pseudo_committed_count};
-ghost use Rattle.store.specs.Layout.{Packed, base, decode, encode};
+ghost use Rattle.store.specs.Layout.{BookLong, Packed, base, decode, encode};
 ghost use Rattle.store.specs.Soundness.{EntriesFit, Room};
 ghost use Rattle.store.specs.Dependency.{Ready};
 ghost use Rattle.protocol.specs.Ending.{carried_out, ended, commit as Commit, lowest_ready as LowestReady, settled_all};
 ghost use Rattle.protocol.specs.Ending.{committed_first};
-ghost use Rattle.ending.specs.Nobody.{Names};
-ghost use Rattle.ending.specs.Ending.{Tracked, Forgotten, Concluded, pseudo_commit as PseudoCommit};
+ghost use Rattle.ending.specs.Ending.{named, Before, Tracked, Forgotten, Concluded, pseudo_commit as PseudoCommit};
 
 use layout::TRANSACTIONS;
 use statuses::FIRST_RANK;
-
-// Stands for no transaction.
-const NOBODY: u32 = TRANSACTIONS as u32;
 
 // Its entries leave the log, and ranks close up.
 fn end(book: &mut [u32], transaction: u32)
@@ -30,7 +26,7 @@ fn end(book: &mut [u32], transaction: u32)
     }
 }
 
-// Its entries are carried into the rows, in order.
+// Its entries are carried into the rows, in order. By index, since a turn may write the book that it reads.
 fn carry_out(book: &mut [u32], transaction: u32)
     requires { Packed base book.old × EntriesFit (decode base book.old) × Room base (decode base book.old) }
     ensures { book.new ≡ encode base (carried_out transaction (decode base book.old).log
@@ -39,7 +35,7 @@ fn carry_out(book: &mut [u32], transaction: u32)
     let count = layout::entry_count(book);
     for i in 0..count {
         if layout::entry_transaction(book, i) == transaction {
-            let object = layout::wide(layout::entry_object(book, i));
+            let object = layout::entry_object(book, i) as usize;
             let operation = layout::entry_operation(book, i);
             objects::fold(book, object, operation);
         }
@@ -55,22 +51,28 @@ fn commit(book: &mut [u32], transaction: u32)
     end(book, transaction);
 }
 
-// The pseudo-committed one of lowest rank that depends on nobody.
-fn lowest_ready(book: &[u32], edges: &[u64; TRANSACTIONS], finished: u64) -> u32
-    requires { Tracked book.now edges.now finished }
-    ensures { Names result (LowestReady (decode base book.now)) }
+// Whether a finished transaction is of lower rank than another, if there is another.
+fn before(book: &[u32], transaction: u32, other: Option<u32>) -> bool
+    requires { BookLong book.now × (transaction < transaction_count) × IfSome other (λ u. u < transaction_count) }
+    ensures { (result ≡ true) ↔ Before book.now transaction other }
 {
-    let mut lowest = NOBODY;
-    let mut rank = NOBODY;
-    let mut left = finished;
-    while left != 0 {
-        let transaction = bitset::lowest(left);
-        let status = statuses::status_word(book, transaction);
-        if status - FIRST_RANK < rank && graph::ready(edges, transaction) {
-            lowest = transaction;
-            rank = status - FIRST_RANK;
+    let own = statuses::status_word(book, transaction);
+    match other {
+        None => true,
+        Some(other) => own < statuses::status_word(book, other),
+    }
+}
+
+// The pseudo-committed one of lowest rank that depends on nobody.
+fn lowest_ready(book: &[u32], edges: &[u64; TRANSACTIONS], finished: u64) -> Option<u32>
+    requires { Tracked book.now edges.now finished }
+    ensures { named result ≡ LowestReady (decode base book.now) }
+{
+    let mut lowest = None;
+    for transaction in bitset::members(finished) {
+        if graph::ready(edges, transaction) && before(book, transaction, lowest) {
+            lowest = Some(transaction);
         }
-        left = bitset::without(left, transaction);
     }
     lowest
 }
@@ -81,12 +83,13 @@ fn forget(edges: &mut [u64; TRANSACTIONS], transaction: u32)
     ensures { Forgotten transaction edges.old edges.new }
 {
     edges[transaction as usize] = 0;
-    for a in 0..TRANSACTIONS {
-        edges[a] = bitset::without(edges[a], transaction);
+    for set in edges.iter_mut() {
+        *set = bitset::without(*set, transaction);
     }
 }
 
-// The lowest ready one commits, until none is left. They go to the list's front.
+// The lowest ready one commits, until none is left. They go to the list's front. Book, sets and list stay parameters:
+// the calls lend them one by one.
 fn commit_ready(
     book: &mut [u32],
     edges: &mut [u64; TRANSACTIONS],
@@ -100,17 +103,14 @@ fn commit_ready(
 {
     let mut left = finished;
     let mut count: usize = 0;
-    loop {
-        let transaction = lowest_ready(book, edges, left);
-        if transaction == NOBODY {
-            return count;
-        }
+    while let Some(transaction) = lowest_ready(book, edges, left) {
         commit(book, transaction);
         forget(edges, transaction);
         left = bitset::without(left, transaction);
         list[count] = transaction as u8;
         count += 1;
     }
+    count
 }
 
 // An active transaction becomes pseudo-committed, last in the order of finishing.

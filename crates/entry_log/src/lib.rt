@@ -1,7 +1,7 @@
 // The log in the book: word 0, and the entries from word 2,145 on.
 #![tactic(auto)]
 
-ghost use Rattle.std.specs.Prelude.{◌≡◌, ◌↔◌, true, ◌+◌, ◌-◌, ◌≤◌, ◌<◌, length, replicate};
+ghost use Rattle.std.specs.Prelude.{◌≡◌, ◌↔◌, true, ◌+◌, ◌-◌, ◌<◌};
 ghost use Rattle.std.proofs.lemmas.List.Edits.{sets};
 ghost use Rattle.bitset.specs.Bitset.{Holds};
 ghost use Rattle.operations.specs.Operations as model;
@@ -11,16 +11,9 @@ ghost use Rattle.store.specs.Layout.{BookLong, Packed, base, encode, decode, wor
 ghost use Rattle.store.specs.Steps.{appended, dropped};
 ghost use Rattle.entry_log.specs.Log.{StoredWords, LogBounded};
 ghost use Rattle.entry_log.specs.Log.{EntryLive, EntryOfKind, EntryKeyReduced, EntryAdmitted, LogFits};
-ghost use Rattle.entry_log.specs.Log.{StoredAs, logged, entry_words_of, words_at, Compacted};
+ghost use Rattle.entry_log.specs.Log.{StoredAs, logged, words_at, Compacted};
 
-use operations::{Answer, Operation};
-
-// Sets of operations, bit n for operation n: all, those that use no key or item, and those that use no value.
-const ALL: u32 = (1 << (operations::MODIFY + 1)) - (1 << operations::PUSH);
-
-const KEYLESS: u32 = 1 << operations::POP | 1 << operations::TOP | 1 << operations::SIZE;
-
-const VALUELESS: u32 = ALL & !(1 << operations::TABLE_INSERT | 1 << operations::MODIFY);
+use operations::{Answer, Kind, MODIFY, Operation, POP, PUSH, SIZE, TABLE_INSERT, TOP};
 
 // Whether the words are those that are stored for an operation: its number is in range, and an argument that it does
 // not use is 0.
@@ -28,12 +21,12 @@ fn is_stored(operation: Operation) -> bool
     ensures { (result ≡ true) ↔ StoredWords operation.number operation.key operation.value }
 {
     let number = operation.number;
-    if number == 0 || number > operations::MODIFY {
+    if !(PUSH..=MODIFY).contains(&number) {
         return false;
     }
-    let key = ((KEYLESS >> number) & 1) * operation.key;
-    let value = ((VALUELESS >> number) & 1) * operation.value;
-    (key | value) == 0
+    let keyless = matches!(number, POP | TOP | SIZE);
+    let valued = matches!(number, TABLE_INSERT | MODIFY);
+    (operation.key == 0 || !keyless) && (operation.value == 0 || valued)
 }
 
 // The number of entries is in range, and the words past them are 0.
@@ -42,11 +35,7 @@ pub fn bounded(book: &[u32]) -> bool
     ensures { (result ≡ true) ↔ LogBounded book.now }
 {
     let count = layout::entry_count(book);
-    if count > layout::ENTRIES {
-        return false;
-    }
-    let start = layout::LOG + layout::ENTRY * count;
-    layout::is_zero(&book[start..])
+    count <= layout::ENTRIES && layout::is_zero(&book[layout::LOG + layout::ENTRY * count..])
 }
 
 fn is_live(book: &[u32], live: u64, i: usize) -> bool
@@ -54,22 +43,16 @@ fn is_live(book: &[u32], live: u64, i: usize) -> bool
     ensures { (result ≡ true) ↔ EntryLive book.now i }
 {
     let transaction = layout::entry_transaction(book, i);
-    if layout::wide(transaction) >= layout::TRANSACTIONS {
-        return false;
-    }
-    bitset::contains(live, transaction)
+    transaction <= layout::LAST_TRANSACTION && bitset::contains(live, transaction)
 }
 
 fn of_kind(book: &[u32], i: usize) -> bool
     requires { BookLong book.now × (i < entry_limit) × AsStored book.now i }
     ensures { (result ≡ true) ↔ EntryOfKind book.now i }
 {
-    let object = layout::wide(layout::entry_object(book, i));
-    if object >= layout::OBJECTS {
-        return false;
-    }
-    let operation = layout::entry_operation(book, i);
-    layout::object_kind(book, object) == operations::kind_of(operation.number)
+    let object = layout::entry_object(book, i) as usize;
+    let kind = Kind::of(layout::entry_operation(book, i).number);
+    object < layout::OBJECTS && layout::object_kind(book, object) == u32::from(kind)
 }
 
 fn is_reduced(book: &[u32], i: usize) -> bool
@@ -77,20 +60,20 @@ fn is_reduced(book: &[u32], i: usize) -> bool
     ensures { (result ≡ true) ↔ EntryKeyReduced book.now i }
 {
     let operation = layout::entry_operation(book, i);
-    operations::kind_of(operation.number) == operations::STACK || operation.key < layout::KEYS
+    match Kind::of(operation.number) {
+        Kind::Stack => true,
+        _ => operation.key < layout::KEYS,
+    }
 }
 
 fn entry_fits(book: &[u32], live: u64, i: usize) -> bool
     requires { BookLong book.now × (i < entry_limit) × Holds live (Live (decode base book.now)) }
     ensures { (result ≡ true) ↔ EntryAdmitted book.now i }
 {
-    if !is_stored(layout::entry_operation(book, i)) {
-        return false;
-    }
-    if !is_live(book, live, i) {
-        return false;
-    }
-    of_kind(book, i) && is_reduced(book, i)
+    is_stored(layout::entry_operation(book, i))
+        && is_live(book, live, i)
+        && of_kind(book, i)
+        && is_reduced(book, i)
 }
 
 // Whether each entry is as stored, belongs to a live transaction, fits its object's kind and has a reduced key.
@@ -98,36 +81,7 @@ pub fn fits(book: &[u32], live: u64) -> bool
     requires { BookLong book.now × LogBounded book.now × Holds live (Live (decode base book.now)) }
     ensures { (result ≡ true) ↔ LogFits book.now }
 {
-    let count = layout::entry_count(book);
-    for i in 0..count {
-        if !entry_fits(book, live, i) {
-            return false;
-        }
-    }
-    true
-}
-
-// An entry's seven words, put at place i of the log.
-fn put(
-    book: &mut [u32],
-    i: usize,
-    transaction: u32,
-    object: u32,
-    operation: Operation,
-    answer: Answer,
-)
-    requires { BookLong book.old × (i < entry_limit) }
-    ensures { book.new
-        ≡ sets book.old (entry_start i) (entry_words_of transaction object operation answer) }
-{
-    let start = layout::LOG + layout::ENTRY * i;
-    book[start] = transaction;
-    book[start + layout::LOGGED_OBJECT] = object;
-    book[start + layout::LOGGED_NUMBER] = operation.number;
-    book[start + layout::LOGGED_KEY] = operation.key;
-    book[start + layout::LOGGED_VALUE] = operation.value;
-    book[start + layout::ANSWER_CODE] = answer.code;
-    book[start + layout::ANSWER_VALUE] = answer.value;
+    (0..layout::entry_count(book)).all(|i| entry_fits(book, live, i))
 }
 
 // An entry put last.
@@ -137,24 +91,40 @@ pub fn append(book: &mut [u32], transaction: u32, object: u32, operation: Operat
     ensures { (o : model.Operation) → StoredAs operation o → book.new
         ≡ encode base (appended (logged transaction object o (answer_of answer)) (decode base book.old)) }
 {
-    let count = layout::entry_count(book);
-    put(book, count, transaction, object, operation, answer);
+    let end = layout::LOG + layout::ENTRY * layout::entry_count(book);
+    book[end..end + layout::ENTRY].copy_from_slice(&[
+        transaction,
+        object,
+        operation.number,
+        operation.key,
+        operation.value,
+        answer.code,
+        answer.value,
+    ]);
     book[layout::LOG_COUNT] += 1;
 }
 
-// The words of one entry, written over those of another.
+// The words of one entry, written over those of another: through an array of them, as `copy_within` is slower.
 fn move_entry(book: &mut [u32], from: usize, to: usize)
     requires { BookLong book.old × (from < entry_limit) × (to < entry_limit) }
     ensures { book.new ≡ sets book.old (entry_start to) (words_at book.old from) }
 {
-    let transaction = layout::entry_transaction(book, from);
-    let object = layout::entry_object(book, from);
-    let operation = layout::entry_operation(book, from);
-    let answer = layout::entry_answer(book, from);
-    put(book, to, transaction, object, operation, answer);
+    let start = layout::LOG + layout::ENTRY * from;
+    let end = layout::LOG + layout::ENTRY * to;
+    let words = [
+        book[start],
+        book[start + layout::LOGGED_OBJECT],
+        book[start + layout::LOGGED_NUMBER],
+        book[start + layout::LOGGED_KEY],
+        book[start + layout::LOGGED_VALUE],
+        book[start + layout::ANSWER_CODE],
+        book[start + layout::ANSWER_VALUE],
+    ];
+    book[end..end + layout::ENTRY].copy_from_slice(&words);
 }
 
-// The entries of other transactions, moved to the front of the log, and their number.
+// The entries of other transactions, moved to the front of the log, and their number. By index, since each turn may
+// write the book that it reads.
 fn gather(book: &mut [u32], transaction: u32) -> usize
     requires { Packed base book.old }
     ensures { Compacted book.old transaction (word book.old 0) book.new result }
@@ -170,13 +140,6 @@ fn gather(book: &mut [u32], transaction: u32) -> usize
     kept
 }
 
-fn clear(book: &mut [u32], start: usize, end: usize)
-    requires { (start ≤ end) × (end ≤ length book.old) }
-    ensures { book.new ≡ sets book.old start (replicate (end - start) 0) }
-{
-    layout::clear(&mut book[start..end]);
-}
-
 // The entries of one transaction leave the log.
 pub fn remove(book: &mut [u32], transaction: u32)
     requires { Packed base book.old }
@@ -184,10 +147,6 @@ pub fn remove(book: &mut [u32], transaction: u32)
 {
     let count = layout::entry_count(book);
     let kept = gather(book, transaction);
-    clear(
-        book,
-        layout::LOG + layout::ENTRY * kept,
-        layout::LOG + layout::ENTRY * count,
-    );
+    book[layout::LOG + layout::ENTRY * kept..layout::LOG + layout::ENTRY * count].fill(0);
     book[layout::LOG_COUNT] = kept as u32;
 }

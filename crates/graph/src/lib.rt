@@ -2,21 +2,13 @@
 // an edge leads from a transaction to one that it depends on.
 #![tactic(auto)]
 
-ghost use Rattle.std.specs.Prelude.{◌≡◌, true, ◌↔◌, ℕ, ◌<◌, get_or};
+ghost use Rattle.std.specs.Prelude.{◌≡◌, Bool, true, ◌↔◌, ℕ, ◌<◌};
 ghost use Rattle.store.specs.Store.{transaction_count};
 ghost use Rattle.bitset.specs.Bitset.{In, Holds};
 ghost use Rattle.store.specs.Dependency.{Way, Predecessor, Successor};
-ghost use Rattle.graph.specs.Edges.{EdgeIn, Near, Reversed};
+ghost use Rattle.graph.specs.Edges.{EdgeIn, Leading, Near, Reversed};
 
 use layout::TRANSACTIONS;
-
-// On whom the transaction depends.
-fn dependencies(edges: &[u64; TRANSACTIONS], transaction: u32) -> u64
-    requires { transaction < transaction_count }
-    ensures { result ≡ get_or edges.now transaction 0 }
-{
-    edges[transaction as usize]
-}
 
 // ---- Predecessors and successors (document 000, section 4.2.1)
 
@@ -25,13 +17,10 @@ fn near_predecessors(edges: &[u64; TRANSACTIONS], among: u64, set: u64) -> u64
     ensures { Holds result (Near (Reversed (EdgeIn edges.now)) among set) }
 {
     let mut found = 0;
-    let mut left = among;
-    while left != 0 {
-        let transaction = bitset::lowest(left);
-        if bitset::meet(dependencies(edges, transaction), set) != 0 {
+    for transaction in bitset::members(among) {
+        if bitset::meet(edges[transaction as usize], set) != 0 {
             found = bitset::join(found, bitset::single(transaction));
         }
-        left = bitset::without(left, transaction);
     }
     found
 }
@@ -41,31 +30,45 @@ fn near_successors(edges: &[u64; TRANSACTIONS], among: u64, set: u64) -> u64
     ensures { Holds result (Near (EdgeIn edges.now) among set) }
 {
     let mut found = 0;
-    let mut left = set;
-    while left != 0 {
-        let transaction = bitset::lowest(left);
-        found = bitset::join(found, dependencies(edges, transaction));
-        left = bitset::without(left, transaction);
+    for transaction in bitset::members(set) {
+        found = bitset::join(found, edges[transaction as usize]);
     }
     bitset::meet(found, among)
 }
 
-// PRED: the other finished ones that depend on the transaction, near and far, through finished ones only. Found are the
-// near ones of the transaction and of those found before, until there are no more.
-pub fn predecessors(edges: &[u64; TRANSACTIONS], finished: u64, transaction: u32) -> u64
-    requires { transaction < transaction_count }
-    ensures { Holds result (Predecessor (EdgeIn edges.now) (In finished) transaction) }
+// Those to which a way leads from the transaction, through finished ones only, but for itself. `near` answers to whom,
+// among the first set, an edge leads from a member of the second. Found are the near ones of the transaction and of
+// those found before, until there are no more.
+fn gathered<F: Fn(u64, u64) -> u64>(near: F, finished: u64, transaction: u32) -> u64
+    ghost edge: { ℕ → ℕ → Bool }
+    requires callable { F.IsAlwaysCallable near }
+    requires answers { (among set found : ℕ) → F.post near among set found
+        → Holds found (Near (Leading edge) among set) }
+    requires within { transaction < transaction_count }
+    ensures { Holds result (Successor (Leading edge) (In finished) transaction) }
 {
     let own = bitset::single(transaction);
     let others = bitset::without(finished, transaction);
     let mut found = 0;
     loop {
-        let more = near_predecessors(edges, others, bitset::join(found, own));
+        let more = near(others, bitset::join(found, own));
         if more == found {
             return found;
         }
         found = more;
     }
+}
+
+// PRED: the other finished ones that depend on the transaction, near and far, through finished ones only.
+pub fn predecessors(edges: &[u64; TRANSACTIONS], finished: u64, transaction: u32) -> u64
+    requires { transaction < transaction_count }
+    ensures { Holds result (Predecessor (EdgeIn edges.now) (In finished) transaction) }
+{
+    gathered(
+        |among, set| near_predecessors(edges, among, set),
+        finished,
+        transaction,
+    )
 }
 
 // SUCC: likewise, the other finished ones on whom the transaction depends.
@@ -73,16 +76,11 @@ pub fn successors(edges: &[u64; TRANSACTIONS], finished: u64, transaction: u32) 
     requires { transaction < transaction_count }
     ensures { Holds result (Successor (EdgeIn edges.now) (In finished) transaction) }
 {
-    let own = bitset::single(transaction);
-    let others = bitset::without(finished, transaction);
-    let mut found = 0;
-    loop {
-        let more = near_successors(edges, others, bitset::join(found, own));
-        if more == found {
-            return found;
-        }
-        found = more;
-    }
+    gathered(
+        |among, set| near_successors(edges, among, set),
+        finished,
+        transaction,
+    )
 }
 
 // ---- What soundness asks of the finished ones
@@ -107,13 +105,10 @@ pub fn acyclic(edges: &[u64; TRANSACTIONS], finished: u64) -> bool
 pub fn dependent(edges: &[u64; TRANSACTIONS], finished: u64) -> bool
     ensures { (result ≡ true) ↔ ((t : ℕ) → In finished t → (u : ℕ) × EdgeIn edges.now t u) }
 {
-    let mut remaining = finished;
-    while remaining != 0 {
-        let transaction = bitset::lowest(remaining);
+    for transaction in bitset::members(finished) {
         if ready(edges, transaction) {
             return false;
         }
-        remaining = bitset::without(remaining, transaction);
     }
     true
 }
@@ -125,5 +120,5 @@ pub fn ready(edges: &[u64; TRANSACTIONS], transaction: u32) -> bool
     requires { transaction < transaction_count }
     ensures { (result ≡ true) ↔ ((u : ℕ) → EdgeIn edges.now transaction u → ⊥) }
 {
-    dependencies(edges, transaction) == 0
+    edges[transaction as usize] == 0
 }

@@ -2,9 +2,11 @@
 // proofs/; and the types of records.
 #![tactic(auto)]
 
+ghost use Rattle.std.specs.Prelude.{◌≡◌};
+
 use protocol::{BATCH, OPERATION_WORDS};
 
-// A record that cannot be read, or not written; `Cause` says why.
+// A record that cannot be read, or not written; `Cause` says why. A number, since C reads it.
 pub const BAD_RECORD: u32 = 13;
 
 // The most arguments of a record, a batch's: its transaction and its operations.
@@ -39,6 +41,19 @@ pub struct Record {
     pub numbers: [u32; LISTED],
 }
 
+impl Record {
+    // Before anything is put into it.
+    pub const EMPTY: Record = Record {
+        letter: 0,
+        operations: 0,
+        arguments: [0; ARGUMENTS],
+        code: 0,
+        owners: 0,
+        listed: 0,
+        numbers: [0; LISTED],
+    };
+}
+
 // Why a record cannot be read.
 #[derive(Clone, Copy)]
 pub enum Cause {
@@ -50,4 +65,20 @@ pub enum Cause {
     Batch,
     LongForm,
     Width,
+}
+
+// Why a record cannot be read, and the place of the letter or number that is turned away: error 13.
+#[derive(Clone, Copy)]
+pub struct Damage {
+    pub cause: Cause,
+    pub place: usize,
+}
+
+impl Cause {
+    // At a place.
+    pub fn at(self, place: usize) -> Damage
+        ensures { result ≡ record { cause = self; place = place } }
+    {
+        Damage { cause: self, place }
+    }
 }

@@ -1,10 +1,11 @@
 // A journal in a file: opened or made, its calls served again, or its records printed.
 #![tactic(auto)]
 
-ghost use Rattle.std.specs.Prelude.{◌≡◌, ◌-◌, ◌≤◌, length, IfOk};
+ghost use Rattle.std.specs.Prelude.{◌≤◌, length, IfOk};
 
+use console::Reported;
 use journal::Cause;
-use journal_parts::Next;
+use journal_parts::{Next, Part, Printing, Resuming, Visitor};
 use std::fs::{File, OpenOptions};
 use std::io;
 use std::io::{Error, ErrorKind, Read, Seek, SeekFrom};
@@ -13,10 +14,7 @@ use std::io::{Error, ErrorKind, Read, Seek, SeekFrom};
 
 // A path as files are opened by: as text.
 fn name_in(path: &[u8]) -> io::Result<&str> {
-    match std::str::from_utf8(path) {
-        Ok(name) => Ok(name),
-        Err(_) => Err(Error::from(ErrorKind::InvalidFilename)),
-    }
+    std::str::from_utf8(path).map_err(|_| Error::from(ErrorKind::InvalidFilename))
 }
 
 // Brings the folder of a file to disk.
@@ -25,29 +23,13 @@ fn sync_folder(rt: &HostRuntime, folder: &[u8]) -> io::Result<()> {
     opened.sync_all()
 }
 
-// Where the last slash of a path stands, or its length where there is none.
-fn last_slash(path: &[u8]) -> usize
-    ensures { result ≤ length path.now }
-{
-    let mut at = path.len();
-    for i in 0..path.len() {
-        if path[i] == b'/' {
-            at = i;
-        }
-    }
-    at
-}
-
 // Brings the folder that a path leads to to disk.
 fn sync_folder_of(rt: &HostRuntime, path: &[u8]) -> io::Result<()> {
-    let slash = last_slash(path);
-    if slash == path.len() {
-        return sync_folder(rt, b".");
+    match path.iter().rposition(|byte| *byte == b'/') {
+        None => sync_folder(rt, b"."),
+        Some(0) => sync_folder(rt, b"/"),
+        Some(slash) => sync_folder(rt, &path[..slash]),
     }
-    if slash == 0 {
-        return sync_folder(rt, b"/");
-    }
-    sync_folder(rt, &path[..slash])
 }
 
 // Opens a journal that is there, and leaves its bytes as they are.
@@ -82,15 +64,9 @@ fn open_or_create(rt: &HostRuntime, path: &[u8]) -> io::Result<File> {
     Ok(file)
 }
 
-// The same; a failure was said.
-pub fn open(rt: &HostRuntime, path: &[u8]) -> Option<File> {
-    match open_or_create(rt, path) {
-        Ok(file) => Some(file),
-        Err(error) => {
-            console::fail(rt, path, &error);
-            None
-        }
-    }
+// The same; a failure is reported.
+pub fn open(rt: &HostRuntime, path: &[u8]) -> Result<File, Reported> {
+    open_or_create(rt, path).map_err(|error| console::fail(rt, path, &error))
 }
 
 // ---- Reading on
@@ -107,55 +83,41 @@ fn read_more(mut file: &File, buffer: &mut [u8], held: usize) -> io::Result<usiz
     Ok(held + got)
 }
 
-// Moves the bytes from one place to another to the front; how many they are.
-fn move_front(buffer: &mut [u8], from: usize, to: usize) -> usize
-    requires { (from ≤ to) × (to ≤ length buffer.old) }
-    ensures { result ≡ to - from }
-{
-    let count = to - from;
-    for i in 0..count {
-        buffer[i] = buffer[from + i];
-    }
-    count
-}
-
 // ---- Part by part
 
-// How a journal was gone through.
-#[derive(Drop)]
-enum Walked {
-    Whole,
-    // its last record, which begins here, is cut
-    Cut(u64),
-    Stop,
-}
-
-// Goes through a journal part by part: prints it, or serves its calls again. The last part is the one that reading adds
-// nothing to. As nothing says that a file ends, the loop counts its turns up to a number that no run uses up.
-fn walk(rt: &HostRuntime, file: &File, path: &[u8], book: &mut [u32], prints: bool) -> Walked {
+// Shows a journal to a visitor, part by part: the place of its last record where that is cut. The last part is the one
+// that reading adds nothing to. As nothing says that a file ends, the loop counts its turns up to a number that no run
+// uses up.
+fn walk<V: Visitor>(
+    rt: &HostRuntime,
+    file: &File,
+    path: &[u8],
+    visitor: &mut V,
+) -> Result<Option<u64>, Reported> {
     let mut buffer = [0u8; console::BUFFER];
     let mut start: u64 = 0;
-    let mut held: usize = 0;
+    let mut held = 0;
     for _ in 0..u64::MAX {
-        let end = match read_more(file, &mut buffer, held) {
-            Ok(end) => end,
-            Err(error) => {
-                console::fail(rt, path, &error);
-                return Walked::Stop;
-            }
+        let end = read_more(file, &mut buffer, held).map_err(|error| console::fail(
+            rt, path, &error,
+        ))?;
+        let part = Part {
+            path,
+            bytes: &buffer[..end],
+            start,
+            is_last: end == held,
         };
-        let part = &buffer[..end];
-        match journal_parts::take_part(rt, book, path, part, start, end == held, prints) {
+        match visitor.visit(rt, part)? {
             Next::On(at) => {
                 start = journal_parts::place_in(start, at);
-                held = move_front(&mut buffer, at, end);
+                buffer.copy_within(at..end, 0);
+                held = end - at;
             }
-            Next::Whole => return Walked::Whole,
-            Next::Cut(at) => return Walked::Cut(journal_parts::place_in(start, at)),
-            Next::Stop => return Walked::Stop,
+            Next::Whole => return Ok(None),
+            Next::Cut(at) => return Ok(Some(journal_parts::place_in(start, at))),
         }
     }
-    Walked::Stop
+    Err(Reported)
 }
 
 // ---- What it is for
@@ -174,18 +136,18 @@ fn cut_away(rt: &HostRuntime, mut file: &File, path: &[u8], whole: u64) -> io::R
     Ok(())
 }
 
-// Serves the calls of a journal again, and leaves the file at its end; whether it can be used. Why not was said.
-pub fn resume(rt: &HostRuntime, file: &File, path: &[u8], book: &mut [u32]) -> bool {
-    match walk(rt, file, path, book, false) {
-        Walked::Whole => true,
-        Walked::Stop => false,
-        Walked::Cut(whole) => match cut_away(rt, file, path, whole) {
-            Ok(()) => true,
-            Err(error) => {
-                console::fail(rt, path, &error);
-                false
-            }
-        },
+// Serves the calls of a journal again, and leaves the file at its end.
+pub fn resume(
+    rt: &HostRuntime,
+    file: &File,
+    path: &[u8],
+    book: &mut [u32],
+) -> Result<(), Reported> {
+    match walk(rt, file, path, &mut Resuming { book })? {
+        None => Ok(()),
+        Some(whole) => cut_away(rt, file, path, whole).map_err(|error| console::fail(
+            rt, path, &error,
+        )),
     }
 }
 
@@ -195,17 +157,10 @@ fn open_to_read(rt: &HostRuntime, path: &[u8]) -> io::Result<File> {
 }
 
 // Prints a journal: each record's call as a line of a script, a tab, and its reply. Damage is said behind that.
-pub fn print(rt: &HostRuntime, path: &[u8]) {
-    let file = match open_to_read(rt, path) {
-        Ok(file) => file,
-        Err(error) => {
-            console::fail(rt, path, &error);
-            return;
-        }
-    };
-    // No call is served.
-    let mut book = [0u32; 0];
-    if let Walked::Cut(place) = walk(rt, &file, path, &mut book, true) {
-        journal_parts::tell_damage(rt, path, Cause::Cut, place);
+pub fn print(rt: &HostRuntime, path: &[u8]) -> Result<(), Reported> {
+    let file = open_to_read(rt, path).map_err(|error| console::fail(rt, path, &error))?;
+    match walk(rt, &file, path, &mut Printing)? {
+        None => Ok(()),
+        Some(place) => Err(journal_parts::tell_damage(rt, path, Cause::Cut, place)),
     }
 }

@@ -1,3 +1,3 @@
-pub mod Numbers
 pub mod Reads
+pub mod Numbers
 pub mod Lists

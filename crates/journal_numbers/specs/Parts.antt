@@ -1,34 +1,32 @@
 -- How what was read is told, and what it says.
-use Rattle.std.specs.Prelude.{ℕ, ◌≤◌, ◌≡◌, List, ◌++◌, length, drop}
-use Rattle.journal.specs.Groups.{Read, found, bad, then}
+use Rattle.std.specs.Prelude.{ℕ, ◌≤◌, ◌≡◌, List, length, drop, MatchResult, Result}
+use Rattle.journal.specs.Groups.{Read, found, bad}
 use Rattle.journal.specs.Coded.{cause_of}
-use Rattle.journal_numbers.specs.declared.Found.{Found}
-use Rattle.journal_numbers.specs.declared.Found.TheVariants.{Is, Bad}
+use Rattle.journal.specs.declared.Damage.{Damage}
 
--- What a part read is told by a number: the number itself, a list that it counts, or the members of a set.
+module _ {A : Type 0} (bytes : List ℕ) (at : ℕ) (what : Read A) where
+  -- At a place this was found, and the place behind it is not before it,
+  pub record Finds (value : A) (behind : ℕ) : Type 0 where
+    pub said : found value (drop behind bytes) ≡ what
+    pub onward : at ≤ behind
+    pub within : behind ≤ length bytes
+
+  -- or it cannot be read.
+  pub record Fails (damage : Damage) : Type 0 where
+    pub said : bad (cause_of damage.cause) (drop damage.place bytes) ≡ what
+    pub onward : at ≤ damage.place
+    pub within : damage.place ≤ length bytes
+
+-- What was read at a place is this, told by a value and the place behind it.
+abbrev pub Reads : {A V : Type 0} → List ℕ → ℕ → (V → A) → (V → ℕ) → Result V Damage → Read A → Type 0
+Reads bytes at value behind r what =
+    MatchResult r (λ v. Finds bytes at what (value v) (behind v)) (λ damage. Fails bytes at what damage)
+
+abbrev pub first : ℕ × ℕ → ℕ
+first told = told.0
+
+abbrev pub second : ℕ × ℕ → ℕ
+second told = told.1
+
 abbrev pub itself : ℕ → ℕ
 itself n = n
-
-module _ {A : Type 0} where
-  abbrev pub part_said : (ℕ → A) → List ℕ → Found → Read A
-  part_said f bytes (Is n at) = found (f n) (drop at bytes)
-  part_said f bytes (Bad cause at) = bad (cause_of cause) (drop at bytes)
-
--- The number, 0 where there is none; and the place.
-abbrev pub number_found : Found → ℕ
-number_found (Is n at) = n
-number_found (Bad cause at) = 0
-
-abbrev pub found_at : Found → ℕ
-found_at (Is n at) = at
-found_at (Bad cause at) = at
-
--- What was read at a place is this, and the place it led to is not before it.
-pub record Reads {A : Type 0} (bytes : List ℕ) (at : ℕ) (f : ℕ → A) (r : Found) (what : Read A) : Type 0 where
-  pub said : part_said f bytes r ≡ what
-  pub onward : at ≤ found_at r
-  pub within : found_at r ≤ length bytes
-
--- Numbers that are there, before those that are read.
-abbrev pub after : List ℕ → Read (List ℕ) → Read (List ℕ)
-after there read = then read (λ more rest. found (there ++ more) rest)

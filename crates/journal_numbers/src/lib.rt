@@ -1,103 +1,87 @@
 // Numbers in groups of seven bits, read at a place of any bytes: one, several, or a count.
 #![tactic(auto)]
 
-ghost use Rattle.std.specs.Prelude.{◌≡◌, ◌+◌, ◌≤◌, ◌<◌, length, get_or, drop};
+ghost use Rattle.std.specs.Prelude.{◌≡◌, ◌≤◌, ◌<◌, length, get_or, drop};
 ghost use Rattle.journal.specs.Groups.{number, numbers};
 ghost use Rattle.journal.specs.Reading.{count};
-ghost use Rattle.journal.specs.Coded.{front, cause_of};
-ghost use Rattle.journal_numbers.specs.Parts.{Reads, itself, after};
+ghost use Rattle.journal.specs.Coded.{cause_of};
+ghost use Rattle.journal_numbers.specs.Parts.{Reads, first, second, itself};
 
-use journal::{Cause, GROUPS};
-
-// What was read: a number, how many, or a set, and the place behind it.
-#[derive(Clone, Copy)]
-pub enum Found {
-    Is(u64, usize),
-    // 13: why, and the place of what cannot be read
-    Bad(Cause, usize),
-}
+use journal::{Cause, Damage, GROUPS};
 
 // A group this large is not the last, and the next ones count so many times as much.
 const GROUP: u64 = 128;
 
-// The largest number.
-const LARGEST: u64 = u32::MAX as u64;
-
 // A number whose first group is not the last.
-fn read_groups(bytes: &[u8], at: usize, first: u64) -> Found
-    requires { (at < length bytes.now) × (first ≡ get_or bytes.now at 0) × (128 ≤ first)
-        × (first < 256) }
-    ensures { Reads bytes.now at itself result (number (drop at bytes.now)) }
+fn read_groups(bytes: &[u8], at: usize, low: u64) -> Result<(u32, usize), Damage>
+    requires { (at < length bytes.now) × (low ≡ get_or bytes.now at 0) × (128 ≤ low) × (low < 256) }
+    ensures { Reads bytes.now at first second result (number (drop at bytes.now)) }
 {
-    let mut value = first - GROUP;
+    let mut value = low - GROUP;
     let mut scale = GROUP;
+    // By index, as the place behind the number is wanted too.
     for i in 1..GROUPS {
-        let place = at + i;
-        if bytes.len() <= place {
-            return Found::Bad(Cause::Cut, at);
+        let Some(byte) = bytes.get(at + i) else {
+            return Err(Cause::Cut.at(at));
+        };
+        let group = *byte as u64;
+        if group == 0 {
+            return Err(Cause::LongForm.at(at));
         }
-        let group = bytes[place] as u64;
         if group < GROUP {
-            if group == 0 {
-                return Found::Bad(Cause::LongForm, at);
-            }
-            let number = value + scale * group;
-            if LARGEST < number {
-                return Found::Bad(Cause::Width, at);
-            }
-            return Found::Is(number, place + 1);
+            let Ok(number) = u32::try_from(value + scale * group) else {
+                return Err(Cause::Width.at(at));
+            };
+            return Ok((number, at + i + 1));
         }
         value += scale * (group - GROUP);
         scale *= GROUP;
     }
-    Found::Bad(Cause::Width, at)
+    Err(Cause::Width.at(at))
 }
 
-pub fn read_number(bytes: &[u8], at: usize) -> Found
+// A number, and the place behind it.
+pub fn read_number(bytes: &[u8], at: usize) -> Result<(u32, usize), Damage>
     requires { at ≤ length bytes.now }
-    ensures { Reads bytes.now at itself result (number (drop at bytes.now)) }
+    ensures { Reads bytes.now at first second result (number (drop at bytes.now)) }
 {
-    if at < bytes.len() {
-        let first = bytes[at] as u64;
-        if first < GROUP {
-            return Found::Is(first, at + 1);
-        }
-        return read_groups(bytes, at, first);
+    let Some(byte) = bytes.get(at) else {
+        return Err(Cause::Cut.at(at));
+    };
+    let low = *byte as u64;
+    if low < GROUP {
+        return Ok((low as u32, at + 1));
     }
-    Found::Bad(Cause::Cut, at)
+    read_groups(bytes, at, low)
 }
 
-// So many numbers, put behind those that are there; how many are there now.
-pub fn read_numbers(bytes: &[u8], at: usize, into: &mut [u32], there: usize, more: usize) -> Found
-    requires { (at ≤ length bytes.now) × (there + more ≤ length into.old) }
-    ensures { Reads bytes.now at (λ n. front n into.new) result
-        (after (front there into.old) (numbers more (drop at bytes.now))) }
+// As many numbers as there is room for, and the place behind them.
+pub fn read_numbers(bytes: &[u8], at: usize, into: &mut [u32]) -> Result<usize, Damage>
+    requires { at ≤ length bytes.now }
+    ensures { Reads bytes.now at (λ end. into.new) itself result (numbers (length into.old) (drop at bytes.now)) }
 {
     let mut place = at;
-    let end = there + more;
-    for i in there..end {
-        let read = read_number(bytes, place);
-        let Found::Is(value, behind) = read else {
-            return read;
-        };
-        into[i] = value as u32;
+    for number in into.iter_mut() {
+        let (value, behind) = read_number(bytes, place)?;
+        *number = value;
         place = behind;
     }
-    Found::Is(end as u64, place)
+    Ok(place)
 }
 
-// How many follow, at most so many; where it is more, that is why.
-pub fn read_count(bytes: &[u8], at: usize, most: u64, past: Cause) -> Found
+// How many follow, at most so many, and the place behind that; where it is more, `past` is why.
+pub fn read_count(
+    bytes: &[u8],
+    at: usize,
+    most: usize,
+    past: Cause,
+) -> Result<(usize, usize), Damage>
     requires { at ≤ length bytes.now }
-    ensures { Reads bytes.now at itself result
-        (count most (cause_of past) (drop at bytes.now)) }
+    ensures { Reads bytes.now at first second result (count most (cause_of past) (drop at bytes.now)) }
 {
-    let read = read_number(bytes, at);
-    let Found::Is(n, _) = read else {
-        return read;
-    };
-    if most < n {
-        return Found::Bad(past, at);
+    let (n, behind) = read_number(bytes, at)?;
+    if most < n as usize {
+        return Err(past.at(at));
     }
-    read
+    Ok((n as usize, behind))
 }

@@ -1,78 +1,87 @@
 // A record's reply: its code, and the owners, answers or list behind it.
-ghost use Rattle.std.specs.Prelude.{◌≡◌, ◌≤◌, length, drop};
+ghost use Rattle.std.specs.Prelude.{◌≡◌, true, ◌*◌, ◌≤◌, length, drop};
 ghost use Rattle.bitset.specs.Bitset.{members};
-ghost use Rattle.journal.specs.Reading.{owners_from};
-ghost use Rattle.journal_numbers.specs.Parts.{Reads, itself};
-ghost use Rattle.journal_reader.specs.Parts.{code_in, count_behind, list_behind, list_of};
+ghost use Rattle.journal.specs.Records.{has_reply as HasReply};
+ghost use Rattle.journal.specs.Reading.{owners_from, reply_of as replyBehind, reply_in};
+ghost use Rattle.journal.specs.Coded.{reply_of, answer_count as AnswerCount};
+ghost use Rattle.journal_numbers.specs.Parts.{Reads, first, second, itself};
+ghost use Rattle.journal_reader.specs.Parts.{code_in, SameCall};
 
-use journal::{Cause, LISTED};
-use journal_numbers::Found;
+use journal::{Cause, Damage, LISTED, Record};
+use journal_numbers::{read_count, read_number, read_numbers};
 
 // Owners are below it.
-const OWNERS: u64 = 64;
+const OWNERS: u32 = 64;
 
 // A reply code that calls of the letter give.
-pub fn read_code(bytes: &[u8], at: usize, letter: u8) -> Found
+fn read_code(bytes: &[u8], at: usize, letter: u8) -> Result<(u32, usize), Damage>
     requires { at ≤ length bytes.now }
-    ensures { Reads bytes.now at itself result (code_in letter (drop at bytes.now)) }
+    ensures { Reads bytes.now at first second result (code_in letter (drop at bytes.now)) }
 {
-    let read = journal_numbers::read_number(bytes, at);
-    let Found::Is(code, _) = read else {
-        return read;
-    };
-    if !letters::gives(letter, code as u32) {
-        return Found::Bad(Cause::Code, at);
+    let (code, behind) = read_number(bytes, at)?;
+    if !letters::gives(letter, code) {
+        return Err(Cause::Code.at(at));
     }
-    read
+    Ok((code, behind))
 }
 
 // So many owners, ascending: their set.
-fn read_owners(bytes: &[u8], at: usize, count: u64) -> Found
+fn read_owners(bytes: &[u8], at: usize, count: usize) -> Result<(u64, usize), Damage>
     requires { at ≤ length bytes.now }
-    ensures { Reads bytes.now at members result (owners_from count 0 (drop at bytes.now)) }
+    ensures { Reads bytes.now at (λ told. members (first told)) second result
+        (owners_from count 0 (drop at bytes.now)) }
 {
     let mut owners: u64 = 0;
-    let mut least: u64 = 0;
+    let mut least: u32 = 0;
     let mut place = at;
-    for i in 0..count {
-        let read = journal_numbers::read_number(bytes, place);
-        let Found::Is(owner, behind) = read else {
-            return read;
-        };
-        if !((least <= owner) & (owner < OWNERS)) {
-            return Found::Bad(Cause::Owners, place);
+    for _ in 0..count {
+        let (owner, behind) = read_number(bytes, place)?;
+        if !(least..OWNERS).contains(&owner) {
+            return Err(Cause::Owners.at(place));
         }
-        owners = bitset::join(owners, bitset::single(owner as u32));
+        owners = bitset::join(owners, bitset::single(owner));
         least = owner + 1;
         place = behind;
     }
-    Found::Is(owners, place)
+    Ok((owners, place))
 }
 
-// How many stand behind a reply code. Answers are uncounted.
-fn read_size(bytes: &[u8], at: usize, code: u32, operations: usize) -> Found
-    requires { (at ≤ length bytes.now) × (operations ≤ 16) }
-    ensures { Reads bytes.now at itself result
-        (count_behind code operations (drop at bytes.now)) }
+// What stands behind a reply code. Answers are uncounted.
+fn read_behind(bytes: &[u8], at: usize, content: &mut Record) -> Result<usize, Damage>
+    requires within { at ≤ length bytes.now }
+    requires replies { HasReply content.old.letter ≡ true }
+    requires own { AnswerCount content.old.letter content.old.operations ≡ 2 * content.old.operations }
+    requires few { content.old.operations ≤ 16 }
+    ensures reads { Reads bytes.now at (λ end. reply_of content.new) itself result
+        (replyBehind content.old.operations content.old.code (drop at bytes.now)) }
+    ensures kept { SameCall content.old content.new }
 {
-    if code == codes::ANSWERED {
-        return Found::Is(2 * operations as u64, at);
+    if content.code == codes::ANSWERED {
+        return read_numbers(bytes, at, &mut content.numbers[..2 * content.operations]);
     }
-    journal_numbers::read_count(bytes, at, LISTED as u64, Cause::List)
+    let (count, behind) = read_count(bytes, at, LISTED, Cause::List)?;
+    if content.code == codes::WAIT {
+        let (owners, end) = read_owners(bytes, behind, count)?;
+        content.owners = owners;
+        return Ok(end);
+    }
+    content.listed = count;
+    read_numbers(bytes, behind, &mut content.numbers[..count])
 }
 
-// What stands behind a reply code: the set of owners, or how many numbers.
-pub fn read_listed(bytes: &[u8], at: usize, code: u32, operations: usize, into: &mut [u32]) -> Found
-    requires { (at ≤ length bytes.now) × (operations ≤ 16) × (length into.old ≡ 64) }
-    ensures { Reads bytes.now at (list_of code into.new) result
-        (list_behind code operations (drop at bytes.now)) }
+// The reply, where there is one, and the place behind it.
+pub fn read_reply(bytes: &[u8], at: usize, content: &mut Record) -> Result<usize, Damage>
+    requires within { at ≤ length bytes.now }
+    requires own { AnswerCount content.old.letter content.old.operations ≡ 2 * content.old.operations }
+    requires few { content.old.operations ≤ 16 }
+    ensures reads { Reads bytes.now at (λ end. reply_of content.new) itself result
+        (reply_in content.old.letter content.old.operations (drop at bytes.now)) }
+    ensures kept { SameCall content.old content.new }
 {
-    let counted = read_size(bytes, at, code, operations);
-    let Found::Is(count, behind) = counted else {
-        return counted;
-    };
-    if code == codes::WAIT {
-        return read_owners(bytes, behind, count);
+    if !letters::has_reply(content.letter) {
+        return Ok(at);
     }
-    journal_numbers::read_numbers(bytes, behind, into, 0, count as usize)
+    let (code, behind) = read_code(bytes, at, content.letter)?;
+    content.code = code;
+    read_behind(bytes, behind, content)
 }

@@ -1,11 +1,11 @@
 -- What is printed of a journal: a line for each record that can be read.
 use Rattle.std.specs.Prelude.{ℕ, ◌+◌, ◌≤◌, ◌<◌, ◌≡◌, List, [], ◌∷◌, ◌++◌, length, drop}
+use Rattle.std.specs.Prelude.{Option, None, Some, Result, Ok, Err}
 use Rattle.text.specs.Fields.{Put}
 use Rattle.journal.specs.Records.{Record}
 use Rattle.journal.specs.Reading.{step, next, end, stopped}
 use Rattle.journal.specs.Coded.{cause_of}
-use Rattle.journal_reader.specs.declared.Place.{Place}
-use Rattle.journal_reader.specs.declared.Place.TheVariants.{Behind, End, Bad}
+use Rattle.journal.specs.declared.Damage.{Damage}
 use Rattle.listing.specs.Listing.{record_line, most_line}
 use Rattle.journal_text.specs.declared.Listed.{Listed}
 
@@ -21,11 +21,11 @@ lines_of [] = []
 lines_of (r ∷ records) = record_line r ++ lines_of records
 
 -- What stands behind them: the end, what cannot be read, or a record for whose line there may be no room.
-abbrev pub Stands : Place → List ℕ → List ℕ → ℕ → List ℕ → Type 0
-Stands (Behind at) bytes rest written out =
+abbrev pub Stands : Result (Option ℕ) Damage → List ℕ → List ℕ → ℕ → List ℕ → Type 0
+Stands (Ok (Some at)) bytes rest written out =
     ((r : Record) × (step rest ≡ next r (drop at bytes))) × (length out < written + most_line)
-Stands End bytes rest written out = step rest ≡ end
-Stands (Bad cause at) bytes rest written out = step rest ≡ stopped (cause_of cause) (drop at bytes)
+Stands (Ok None) bytes rest written out = step rest ≡ end
+Stands (Err damage) bytes rest written out = step rest ≡ stopped (cause_of damage.cause) (drop damage.place bytes)
 
 -- Lines of records were put at the front of a buffer.
 pub record Listing (bytes out printed : List ℕ) (l : Listed) : Type 0 where
@@ -34,4 +34,4 @@ pub record Listing (bytes out printed : List ℕ) (l : Listed) : Type 0 where
   pub within : l.at ≤ length bytes
   pub put : Put out 0 (lines_of records) printed l.written
   pub fits : l.written ≤ length out
-  pub stands : Stands l.place bytes (drop l.at bytes) l.written out
+  pub stands : Stands l.next bytes (drop l.at bytes) l.written out

@@ -3,56 +3,56 @@
 
 ghost use Rattle.journal_text.specs.Listed.{Listing};
 
-use journal_reader::Place;
+use arrayvec::ArrayVec;
+use journal::Damage;
 
 // The most bytes of a line.
 pub const MOST_LINE: usize = 1_076;
 
-// How far a journal was printed, how many bytes that takes, and what stands there: a record where there was no room for
-// its line.
+// How far a journal was printed, how many bytes that takes, and what stands there: no record, or one for whose line
+// there was no room, and the place behind it.
 #[derive(Drop)]
 pub struct Listed {
     pub at: usize,
     pub written: usize,
-    pub place: Place,
+    pub next: Result<Option<usize>, Damage>,
 }
 
-// Puts a line for each record at the front of a buffer, as far as it has room.
+// Puts a line for each record at the front of a buffer, as far as it has room. The buffer is the caller's: what stands
+// behind is promised to stay.
 pub fn list(bytes: &[u8], out: &mut [u8]) -> Listed
     ensures { Listing bytes.now out.old out.new result }
 {
     let mut at: usize = 0;
     let mut written: usize = 0;
     loop {
-        let reading = journal_reader::next(bytes, at);
-        let place = reading.place;
-        let content = reading.content;
-        match place {
-            Place::End => {
+        let (content, end) = match journal_reader::next(bytes, at) {
+            Ok(Some(read)) => read,
+            Ok(None) => {
                 return Listed {
                     at,
                     written,
-                    place: Place::End,
+                    next: Ok(None),
                 };
             }
-            Place::Bad(cause, bad) => {
+            Err(damage) => {
                 return Listed {
                     at,
                     written,
-                    place: Place::Bad(cause, bad),
+                    next: Err(damage),
                 };
             }
-            Place::Behind(end) => {
-                if out.len() - written < MOST_LINE {
-                    return Listed {
-                        at,
-                        written,
-                        place: Place::Behind(end),
-                    };
-                }
-                written = listing::put_record(out, written, content);
-                at = end;
-            }
+        };
+        if out.len() - written < MOST_LINE {
+            return Listed {
+                at,
+                written,
+                next: Ok(Some(end)),
+            };
         }
+        let mut line = ArrayVec::<u8, MOST_LINE>::new();
+        listing::put_record(&mut line, &content);
+        written = text::put(out, written, line.as_slice());
+        at = end;
     }
 }

@@ -1,8 +1,6 @@
 pub mod Groups
-pub mod Writing
-pub mod Members
-pub mod Arguments
+pub mod Putting
 pub mod Replies
 pub mod Shape
-pub mod Room
+pub mod Numbers
 pub mod Whole

@@ -1,18 +1,20 @@
 -- Laws for the functions of `layout`.
-use Rattle.std.specs.Prelude.{ℕ, ◌+◌, ◌-◌, ◌*◌, ◌≤◌, ◌<◌, ◌≡◌, refl, true, false, ◌↔◌, List, [], ◌∷◌, ◌++◌, map, eqb}
-use Rattle.std.specs.Prelude.{ltb, length, set, take, drop, replicate}
-use Rattle.std.proofs.Common.{sym, ap, ap₂, ◌∙◌, subst, append-nil, not-suc-le-zero, add-one, arith, ltb-true}
-use Rattle.std.proofs.Common.{ltb-false, eqb-true, eq-eqb, length-drop, take-suc-set, get_or-drop, take_all}
-use Rattle.std.proofs.lemmas.List.{map-append}
+use Rattle.std.specs.List.{fold}
+use Rattle.std.specs.Simd.{first_chunks}
+use Rattle.std.specs.Prelude.{ℕ, zero, suc, ◌+◌, ◌-◌, ◌*◌, ◌/◌, ◌≤◌, ◌<◌, ◌≡◌, refl, true, false, ◌↔◌, List, [], ◌∷◌}
+use Rattle.std.specs.Prelude.{◌++◌, map, eqb}
+use Rattle.std.specs.Prelude.{ltb, length, take, drop}
+use Rattle.std.proofs.Common.{sym, ap, ap₂, ◌∙◌, not-suc-le-zero, arith, ltb-true}
+use Rattle.std.proofs.Common.{ltb-false, eqb-true, eq-eqb, length-drop, length-take-le, get_or-drop, take_all}
+use Rattle.std.proofs.lemmas.List.{take-append-le}
 use Rattle.std.specs.Int.Bits.{bit_or, or_add_and, or_self}
 use Rattle.std.proofs.lemmas.Nat.{and_le_l, and_le_r}
 use Rattle.std.proofs.Math.ListN.{get_or-eq_default}
-use Rattle.std.proofs.Math.Seq.{drop-length}
 use Rattle.operations.specs.Operations.{Row, row}
 use Rattle.operations.proofs.Laws.Cases.{split, same}
 use Rattle.replay.specs.Replay.{row_of, rows_of}
-use Rattle.store.specs.Layout.{word, tabulate, object_start, row_at, rows_at}
-use Rattle.store.proofs.Laws.Lists.{tabulate_snoc, tabulate_zero, tabulate_same}
+use Rattle.store.specs.Layout.{word, tabulate}
+use Rattle.store.proofs.Laws.Lists.{tabulate_same}
 use Rattle.layout.specs.Rows.{row_in}
 
 -- ---- Zeros
@@ -23,6 +25,31 @@ or_zero_lem a b e =
     let left = and_le_l a b in
     let right = and_le_r a b in
     (omega arith, omega arith)
+
+-- The union of the words is 0 exactly where each is.
+zeros_from : (w : List ℕ) (seen : ℕ) → fold bit_or seen w ≡ 0 → (seen ≡ 0) × ((i : ℕ) → word w i ≡ 0)
+zeros_from [] seen e = (e, λ i. refl)
+zeros_from (x ∷ w) seen e =
+    let (both, rest) = zeros_from w (bit_or seen x) e in
+    let (none, first) = or_zero_lem seen x both in
+    (none, at first rest)
+  where
+    at : x ≡ 0 → ((i : ℕ) → word w i ≡ 0) → (i : ℕ) → word (x ∷ w) i ≡ 0
+    at e rest zero = e
+    at e rest (suc i) = rest i
+
+union_of_zeros : (w : List ℕ) → ((i : ℕ) → word w i ≡ 0) → fold bit_or 0 w ≡ 0
+union_of_zeros [] zeros = refl
+union_of_zeros (x ∷ w) zeros =
+    ap (λ (seen : ℕ). fold bit_or (bit_or 0 seen) w) (zeros 0)
+    ∙ ap (λ (seen : ℕ). fold bit_or seen w) (or_self 0)
+    ∙ union_of_zeros w (λ i. zeros (suc i))
+
+pub union_zero : (w : List ℕ) (seen : ℕ) → seen ≡ fold bit_or 0 w → (eqb seen 0 ≡ true) ↔ ((i : ℕ) → word w i ≡ 0)
+union_zero w seen e = (
+  λ q. (zeros_from w 0 (sym e ∙ eqb-true seen 0 q)).1,
+  λ zeros. eq-eqb seen 0 (e ∙ union_of_zeros w zeros),
+)
 
 -- The union of the first i words, and whether it is 0.
 pub record Seen (w : List ℕ) (i seen : ℕ) : Type 0 where
@@ -51,46 +78,40 @@ seen_all w i seen l s = (
   λ h. eq-eqb seen 0 (s.none h),
 )
 
--- Zeros written up to the end.
-pub filled : (d : List ℕ) (i : ℕ) → i ≡ length d → replicate i 0 ++ drop i d ≡ replicate (length d) 0
-filled d i e = rw (e, drop-length d) (append-nil {A = ℕ} (replicate (length d) 0))
-
 -- ---- Rows
 
--- The first i pairs of the copy are the first i rows.
+-- The first n pairs of the copy are the first n rows.
 abbrev pub Copied : List ℕ → List (List ℕ) → ℕ → Type 0
-Copied w copy i = rows_of copy i ≡ tabulate i (row_in w)
+Copied w copy n = rows_of copy n ≡ tabulate n (row_in w)
 
-pub copied_start : (w : List ℕ) (copy : List (List ℕ)) → Copied w copy 0
-copied_start w copy = sym (tabulate_zero (row_in w))
+first_pair : (w : List ℕ) → row_of (take 2 w) ≡ row_in w 0
+first_pair [] = refl
+first_pair (x ∷ []) = refl
+first_pair (x ∷ y ∷ w) = refl
 
-pub copied_next : (w : List ℕ) (i : ℕ) (copy : List (List ℕ)) (pair : List ℕ) → i < length copy
-    → row_of pair ≡ row_in w i → Copied w copy i
-    → Copied w (set copy i pair) (i + 1)
-copied_next w i copy pair l e c =
-    rw (add-one i)
-    (ap (map row_of) (take-suc-set copy i pair l) ∙ map-append row_of (take i copy) (pair ∷ [])
-    ∙ ap₂ (λ (rs : List Row) (r : Row). rs ++ (r ∷ [])) c e ∙ sym (tabulate_snoc i (row_in w)))
+row_after : (w : List ℕ) (i : ℕ) → row_in (drop 2 w) i ≡ row_in w (suc i)
+row_after w i =
+    ap₂ row (get_or-drop 2 w (2 * i) 0 ∙ ap (word w) (omega arith))
+    (get_or-drop 2 w (2 * i + 1) 0 ∙ ap (word w) (omega arith))
 
-pub copied_all : (w : List ℕ) (i n : ℕ) (copy : List (List ℕ)) → Copied w copy i → i ≡ n → Copied w copy n
-copied_all w i n copy c e = subst (Copied w copy) e c
+-- Words, two by two, are rows.
+pairs_rows : (n k : ℕ) (w : List ℕ) → n ≤ k → map row_of (take n (first_chunks 2 k w)) ≡ tabulate n (row_in w)
+unfolding tabulate
+pairs_rows zero k w l = refl
+pairs_rows (suc n) zero w l = absurd (omega arith)
+pairs_rows (suc n) (suc k) w l =
+    ap₂ (λ (r : Row) (rs : List Row). r ∷ rs) (first_pair w)
+    (pairs_rows n k (drop 2 w) (omega arith)
+    ∙ tabulate_same n (row_in (drop 2 w)) (λ i. row_in w (suc i)) (λ i m. row_after w i))
+
+pub pairs_copied : (w : List ℕ) (n : ℕ) (pairs copied rest : List (List ℕ)) → 2 * n ≤ length w
+    → pairs ≡ first_chunks 2 (length w / 2) w → length pairs ≡ length w / 2 → copied ≡ take n pairs
+    → Copied w (copied ++ rest) n
+pairs_copied w n pairs copied rest l e whole c =
+    let many : length copied ≡ n = ap length c ∙ length-take-le n pairs (omega arith) in
+    ap (map row_of) (take-append-le n copied rest (omega arith) ∙ take_all n copied (omega arith) ∙ c ∙ ap (take n) e)
+    ∙ pairs_rows n (length w / 2) w (omega arith)
 
 -- A part that goes to the end.
 pub tail_part : (w : List ℕ) (a : ℕ) → take (length w - a) (drop a w) ≡ drop a w
 tail_part w a = take_all (length w - a) (drop a w) (rw length-drop (omega arith))
-
--- An object's rows begin the part that starts at its first row.
-rows_from : (w : List ℕ) (o n : ℕ) → tabulate n (row_in (drop (object_start o + 2) w)) ≡ tabulate n (row_at w o)
-rows_from w o n =
-    tabulate_same n (row_in (drop (object_start o + 2) w)) (row_at w o)
-    (λ i l. ap₂ row (at (2 * i)) (at (2 * i + 1) ∙ ap (word w) (omega arith)))
-  where
-    at : (i : ℕ) → word (drop (object_start o + 2) w) i ≡ word w (object_start o + 2 + i)
-    at i = get_or-drop (object_start o + 2) w i 0
-
-pub rows_copied : (w : List ℕ) (o n : ℕ) (copy : List (List ℕ)) → n ≡ word w (object_start o + 1)
-    → Copied (take (length w - (object_start o + 2)) (drop (object_start o + 2) w)) copy n
-    → rows_of copy (word w (object_start o + 1)) ≡ rows_at w o
-rows_copied w o n copy count c =
-    rw (← count)
-    (c ∙ ap (λ (part : List ℕ). tabulate n (row_in part)) (tail_part w (object_start o + 2)) ∙ rows_from w o n)

@@ -73,17 +73,11 @@ pub const ANSWER_VALUE: usize = 6;
 
 pub const ENTRY: usize = 7;
 
-pub fn wide(x: u32) -> usize
-    ensures { result ≡ x }
-{
-    x as usize
-}
-
 pub fn entry_count(book: &[u32]) -> usize
     requires { BookLong book.now }
     ensures { result ≡ word book.now 0 }
 {
-    wide(book[LOG_COUNT])
+    book[LOG_COUNT] as usize
 }
 
 pub fn entry_transaction(book: &[u32], i: usize) -> u32
@@ -153,7 +147,7 @@ pub fn row_count(book: &[u32], object: usize) -> usize
     requires { BookLong book.now × (object < object_count) }
     ensures { result ≡ word book.now (ObjectStart object + 1) }
 {
-    wide(book[object_start(object) + COUNT])
+    book[object_start(object) + COUNT] as usize
 }
 
 // A row's first word: an item or a key.
@@ -176,22 +170,14 @@ pub fn row_value(book: &[u32], object: usize, row: usize) -> u32
 pub fn is_zero(part: &[u32]) -> bool
     ensures { (result ≡ true) ↔ ((i : ℕ) → word part.now i ≡ 0) }
 {
-    let mut seen: u32 = 0;
-    let mut i: usize = 0;
-    while i < part.len() {
-        seen = seen | part[i];
-        i += 1;
-    }
-    seen == 0
+    part.iter().fold(0, |seen, word| seen | *word) == 0
 }
 
 // Sets all words to 0.
 pub fn clear(part: &mut [u32])
     ensures { part.new ≡ replicate (length part.old) 0 }
 {
-    for i in 0..part.len() {
-        part[i] = 0;
-    }
+    part.fill(0);
 }
 
 // A copy of the rows that the words begin with, for replay.
@@ -200,9 +186,8 @@ fn copied(words: &[u32], count: usize) -> [[u32; 2]; ROWS]
     ensures { rows_of result count ≡ tabulate count (row_in words.now) }
 {
     let mut rows = [[0u32; 2]; ROWS];
-    for i in 0..count {
-        rows[i] = [words[ROW * i], words[ROW * i + VALUE]];
-    }
+    let (pairs, _) = words.as_chunks::<ROW>();
+    rows[..count].copy_from_slice(&pairs[..count]);
     rows
 }
 

@@ -3,27 +3,37 @@
 
 ghost use Rattle.std.specs.Prelude.{◌≡◌, ◌≤◌};
 ghost use Rattle.journal.specs.Records.{arguments_of as ArgumentsOf, has_reply as HasReply, gives as Gives};
-ghost use Rattle.journal.specs.Coded.{or_zero, argument_count as ArgumentCount, answer_count as AnswerCount};
-ghost use Rattle.letters.specs.Letters.{most_arguments};
+ghost use Rattle.journal.specs.Coded.{argument_count as ArgumentCount, answer_count as AnswerCount};
+ghost use Rattle.letters.specs.Letters.{count_said, most_arguments};
 
 use layout::OBJECTS;
 use protocol::OPERATION_WORDS;
 
-// The letter of a batch.
+// The letters. They are bytes, as a record has them for C.
+pub const SET_UP: u8 = b'S';
+
+pub const BEGIN: u8 = b'B';
+
+pub const OPERATE: u8 = b'I';
+
 pub const BATCH: u8 = b'G';
 
-// The arguments of an operation: transaction, object, operation, key or item, value.
-const OPERATE: usize = 5;
+pub const FINISH: u8 = b'F';
 
-// How many arguments stand first behind a letter; 0 behind what is none.
-pub fn arguments_of(letter: u8) -> usize
-    ensures { result ≡ or_zero (ArgumentsOf letter) }
+pub const CANCEL: u8 = b'C';
+
+// The arguments of an operation: transaction, object, operation, key or item, value.
+const OPERATE_ARGUMENTS: usize = 5;
+
+// How many arguments stand first behind a letter; None behind what is no letter.
+pub fn arguments_of(letter: u8) -> Option<usize>
+    ensures { count_said result ≡ ArgumentsOf letter }
 {
     match letter {
-        b'S' => OBJECTS,
-        b'I' => OPERATE,
-        b'B' | b'G' | b'F' | b'C' => 1,
-        _ => 0,
+        SET_UP => Some(OBJECTS),
+        OPERATE => Some(OPERATE_ARGUMENTS),
+        BEGIN | BATCH | FINISH | CANCEL => Some(1),
+        _ => None,
     }
 }
 
@@ -31,10 +41,7 @@ pub fn arguments_of(letter: u8) -> usize
 pub fn has_reply(letter: u8) -> bool
     ensures { result ≡ HasReply letter }
 {
-    match letter {
-        b'S' | b'B' => false,
-        _ => true,
-    }
+    letter != SET_UP && letter != BEGIN
 }
 
 // Whether a call of that letter gives that reply code.
@@ -42,9 +49,9 @@ pub fn gives(letter: u8, code: u32) -> bool
     ensures { result ≡ Gives letter code }
 {
     match letter {
-        b'I' | b'G' => code <= codes::ANSWERED,
-        b'F' => codes::FINISHED <= code && code <= codes::CIRCLE,
-        b'C' => code == codes::CANCELLED,
+        OPERATE | BATCH => code <= codes::ANSWERED,
+        FINISH => codes::FINISHED <= code && code <= codes::CIRCLE,
+        CANCEL => code == codes::CANCELLED,
         _ => false,
     }
 }
@@ -54,7 +61,7 @@ pub fn argument_count(letter: u8, operations: usize) -> usize
     requires { ArgumentCount letter operations ≤ most_arguments }
     ensures { result ≡ ArgumentCount letter operations }
 {
-    let first = arguments_of(letter);
+    let first = arguments_of(letter).unwrap_or(0);
     if letter == BATCH {
         return first + OPERATION_WORDS * operations;
     }

@@ -1,6 +1,4 @@
-pub mod Batches
 pub mod Calls
 pub mod Fields
-pub mod Reading
 pub mod Lengths
 pub mod Letters

@@ -1,4 +1,3 @@
-pub mod Spacing
 pub mod Replying
 pub mod Shapes
 pub mod Lines

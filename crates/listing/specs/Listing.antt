@@ -3,13 +3,15 @@ use Rattle.std.specs.Prelude.{ℕ, cond, List, [], ◌∷◌, ◌++◌, eqb, len
 use Prim.Native.Char.{code}
 use Rattle.text.specs.Text.{ascii}
 use Rattle.replies.specs.Printed.{spaced}
+use Rattle.journal.specs.Records.{finished_code, committed_code, circle_code}
 use Rattle.journal.specs.Records.{Reply, nothing, wait, answered, ended, Record}
 
 -- The word of a reply that carries a list.
 abbrev pub end_word : ℕ → List ℕ
 end_word replyCode =
-    cond (eqb replyCode 2) (ascii "finished")
-    (cond (eqb replyCode 3) (ascii "committed") (cond (eqb replyCode 4) (ascii "circle") (ascii "cancelled")))
+    cond (eqb replyCode finished_code) (ascii "finished")
+    (cond (eqb replyCode committed_code) (ascii "committed")
+    (cond (eqb replyCode circle_code) (ascii "circle") (ascii "cancelled")))
 
 abbrev pub reply_text : Reply → List ℕ
 reply_text nothing = ascii "ok"

@@ -1,102 +1,99 @@
-// A record of a journal, put into a buffer as a line of text.
+// A record of a journal, appended to a text as a line.
 #![tactic(auto)]
 
 ghost use Rattle.std.specs.Prelude.{◌≡◌, true, ◌++◌, ◌+◌, ◌*◌, ◌≤◌, length};
+ghost use Rattle.arrayvec.specs.ArrayVec.{array_vec_len};
 ghost use Rattle.bitset.specs.Bitset.{members};
-ghost use Rattle.text.specs.Fields.{Put};
 ghost use Rattle.replies.specs.Printed.{spaced};
 ghost use Rattle.journal.specs.Records.{shaped, wait};
-ghost use Rattle.journal.specs.Coded.{front, reply_of, record_of};
+ghost use Rattle.journal.specs.Coded.{reply_of, record_of};
 ghost use Rattle.listing.specs.Listing.{reply_text, record_line, most_line};
 ghost use Rattle.listing.specs.Room.{most_number, most_wait, most_reply, list_word};
 
+use arrayvec::ArrayVec;
 use journal::Record;
 
-// Puts so many numbers, a space before each.
-fn put_spaced(out: &mut [u8], at: usize, numbers: &[u32], count: usize) -> usize
-    requires { (at + most_number * count ≤ length out.old) × (count ≤ length numbers.now) }
-    ensures { Put out.old at (spaced (front count numbers.now)) out.new result
-        × (result ≤ at + most_number * count) }
+// Appends numbers, a space before each.
+fn put_spaced<const N: usize>(out: &mut ArrayVec<u8, N>, numbers: &[u32])
+    requires room { array_vec_len out.old + most_number * length numbers.now ≤ N }
+    ensures text { out.new.items ≡ out.old.items ++ spaced numbers.now }
+    ensures few { array_vec_len out.new ≤ array_vec_len out.old + most_number * length numbers.now }
 {
-    let mut end = at;
-    for i in 0..count {
-        end = replies::put_field(out, end, numbers[i]);
+    for number in numbers {
+        replies::put_field(out, *number);
     }
-    end
 }
 
-// Puts the word of a reply code that is no wait's.
-fn put_word(out: &mut [u8], at: usize, code: u32) -> usize
-    requires { at + length (list_word code) ≤ length out.old }
-    ensures { Put out.old at (list_word code) out.new result }
+// The word of a reply code that is no wait's.
+fn word(code: u32) -> &'static [u8]
+    ensures { result.now ≡ list_word code }
 {
     match code {
-        1 => text::put(out, at, b"answer"),
-        2 => text::put(out, at, b"finished"),
-        3 => text::put(out, at, b"committed"),
-        4 => text::put(out, at, b"circle"),
-        _ => text::put(out, at, b"cancelled"),
+        codes::ANSWERED => b"answer",
+        codes::FINISHED => b"finished",
+        codes::COMMITTED => b"committed",
+        codes::CIRCLE => b"circle",
+        _ => b"cancelled",
     }
 }
 
-// Puts the word of a reply code that is no wait's, and so many numbers behind it.
-fn put_list(out: &mut [u8], at: usize, code: u32, numbers: &[u32], count: usize) -> usize
-    requires { (at + length (list_word code) + most_number * count ≤ length out.old)
-        × (count ≤ length numbers.now) }
-    ensures { Put out.old at (list_word code ++ spaced (front count numbers.now))
-        out.new result
-        × (result ≤ at + length (list_word code) + most_number * count) }
+// Appends a wait for the members of a set.
+#[tactic(auto, using(replies::proofs::Laws::Printing::field_few))]
+fn put_wait<const N: usize>(out: &mut ArrayVec<u8, N>, owners: u64)
+    requires room { array_vec_len out.old + most_wait ≤ N }
+    ensures text { out.new.items ≡ out.old.items ++ reply_text (wait (members owners)) }
+    ensures few { array_vec_len out.new ≤ array_vec_len out.old + most_wait }
 {
-    let end = put_word(out, at, code);
-    put_spaced(out, end, numbers, count)
+    let _ = out.try_extend_from_slice(b"wait");
+    replies::put_field(out, bitset::size(owners));
+    replies::put_members(out, owners);
 }
 
-// Puts a wait for the members of a set.
-fn put_wait(out: &mut [u8], at: usize, owners: u64) -> usize
-    requires { at + most_wait ≤ length out.old }
-    ensures { Put out.old at (reply_text (wait (members owners))) out.new result
-        × (result ≤ at + most_wait) }
+// Appends the word of a reply code that is no wait's, and numbers behind it.
+fn put_list<const N: usize>(out: &mut ArrayVec<u8, N>, code: u32, numbers: &[u32])
+    requires room { array_vec_len out.old + length (list_word code) + most_number * length numbers.now ≤ N }
+    ensures text { out.new.items ≡ out.old.items ++ (list_word code ++ spaced numbers.now) }
+    ensures few { array_vec_len out.new
+        ≤ array_vec_len out.old + length (list_word code) + most_number * length numbers.now }
 {
-    let word = text::put(out, at, b"wait");
-    let count = replies::put_field(out, word, bitset::size(owners));
-    replies::put_members(out, count, owners)
+    let _ = out.try_extend_from_slice(word(code));
+    put_spaced(out, numbers);
 }
 
-// Puts the reply of a record that a journal has.
-fn put_reply(out: &mut [u8], at: usize, content: Record) -> usize
-    requires { (at + most_reply (reply_of content) ≤ length out.old) × (shaped (record_of content) ≡ true) }
-    ensures { Put out.old at (reply_text (reply_of content)) out.new result
-        × (result ≤ at + most_reply (reply_of content)) }
+// Appends the reply of a record that a journal has.
+#[tactic(auto, using(crate::proofs::Laws::Shapes::bounds))]
+fn put_reply<const N: usize>(out: &mut ArrayVec<u8, N>, content: &Record)
+    requires room { array_vec_len out.old + most_reply (reply_of content.now) ≤ N }
+    requires shape { shaped (record_of content.now) ≡ true }
+    ensures text { out.new.items ≡ out.old.items ++ reply_text (reply_of content.now) }
+    ensures few { array_vec_len out.new ≤ array_vec_len out.old + most_reply (reply_of content.now) }
 {
-    let letter = content.letter;
-    if !letters::has_reply(letter) {
-        return text::put(out, at, b"ok");
+    if !letters::has_reply(content.letter) {
+        let _ = out.try_extend_from_slice(b"ok");
+        return;
     }
-    let code = content.code;
-    let numbers = content.numbers;
-    match code {
-        0 => put_wait(out, at, content.owners),
-        1 => {
-            let count = letters::answer_count(letter, content.operations);
-            put_list(out, at, 1, &numbers, count)
+    match content.code {
+        codes::WAIT => put_wait(out, content.owners),
+        codes::ANSWERED => {
+            let count = letters::answer_count(content.letter, content.operations);
+            put_list(out, codes::ANSWERED, &content.numbers[..count]);
         }
-        _ => put_list(out, at, code, &numbers, content.listed),
+        code => put_list(out, code, &content.numbers[..content.listed]),
     }
 }
 
-// Puts a record that a journal has as a line.
-pub fn put_record(out: &mut [u8], at: usize, content: Record) -> usize
-    requires { (at + most_line ≤ length out.old) × (shaped (record_of content) ≡ true) }
-    ensures { Put out.old at (record_line (record_of content)) out.new result
-        × (result ≤ at + most_line) }
+// Appends a record that a journal has as a line.
+#[tactic(auto, using(crate::proofs::Laws::Shapes::few_arguments))]
+pub fn put_record<const N: usize>(out: &mut ArrayVec<u8, N>, content: &Record)
+    requires room { array_vec_len out.old + most_line ≤ N }
+    requires shape { shaped (record_of content.now) ≡ true }
+    ensures text { out.new.items ≡ out.old.items ++ record_line (record_of content.now) }
+    ensures few { array_vec_len out.new ≤ array_vec_len out.old + most_line }
 {
-    let letter = content.letter;
-    let arguments = content.arguments;
-    let count = letters::argument_count(letter, content.operations);
-    out[at] = letter;
-    let tab = put_spaced(out, at + 1, &arguments, count);
-    out[tab] = b'\t';
-    let end = put_reply(out, tab + 1, content);
-    out[end] = b'\n';
-    end + 1
+    let count = letters::argument_count(content.letter, content.operations);
+    out.push(content.letter);
+    put_spaced(out, &content.arguments[..count]);
+    out.push(b'\t');
+    put_reply(out, content);
+    out.push(b'\n');
 }

@@ -1,5 +1,6 @@
 pub mod Tests
 pub mod Ranges
-pub mod Rows
+pub mod Moving
 pub mod Writing
 pub mod Folding
+pub mod Rows

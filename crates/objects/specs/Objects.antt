@@ -26,6 +26,10 @@ words_of kind rows = kind ∷ length rows ∷ padded 128 (joined row_words rows)
 
 -- ---- The object that a part starts with
 
+-- It has at most 64 rows, and their words are there.
+abbrev pub RowsWithin : List ℕ → Type 0
+RowsWithin w = (130 ≤ length w) × (word w 1 ≤ 64)
+
 -- Its rows, as pairs of words and as rows.
 abbrev pub pairs_in : List ℕ → List (List ℕ)
 pairs_in w = tabulate (word w 1) (λ i. word w (2 + 2 * i) ∷ word w (2 + 2 * i + 1) ∷ [])

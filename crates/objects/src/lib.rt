@@ -1,34 +1,33 @@
 // The objects in the book, words 65 to 2,144: their ranges and zeros, the form of their rows, and an operation folded
-// into one.
+// into one, in place. `replay` does the same to a copy, by value: the paper names both forms, and the two share the
+// search.
 #![tactic(auto)]
 
-ghost use Rattle.std.specs.Prelude.{◌≡◌, true, ◌↔◌, [], ◌∷◌, ◌++◌, ℕ, ◌-◌, ◌<◌, ◌≤◌, length, take};
+ghost use Rattle.std.specs.Prelude.{◌≡◌, true, ◌↔◌, [], ◌∷◌, ◌++◌, ℕ, ◌-◌, ◌<◌, ◌≤◌, length, map, take};
 ghost use Rattle.std.proofs.Math.Option.{some};
 ghost use Rattle.store.specs.Store.{object_count};
 ghost use Rattle.operations.specs.Operations.{row_limit};
 ghost use Rattle.operations.specs.Operations as model;
-ghost use Rattle.operations.specs.Operations.{row, All, NoValue, present as Present};
+ghost use Rattle.operations.specs.Operations.{row, All, NoValue};
 ghost use Rattle.operations.specs.Operations.{inserted as Inserted, deleted as Deleted, modified as Modified};
 ghost use Rattle.operations.specs.Stored.{operation_of};
-ghost use Rattle.replay.specs.Replay.{next_named, position_of, put_at, removed_at};
+ghost use Rattle.replay.specs.Replay.{next_named, row_of, put_at, removed_at};
 ghost use Rattle.store.specs.Layout.{BookLong, Packed, ObjectPacked, base, decode, encode, word, rows_at};
 ghost use Rattle.store.specs.Soundness.{RowsFormed};
 ghost use Rattle.store.specs.Steps.{folded};
-ghost use Rattle.objects.specs.Objects.{InRange, KeyedRows, ObjectFormed, StartsPacked, rows_in, with_rows};
+ghost use Rattle.objects.specs.Objects.{InRange, KeyedRows, ObjectFormed, RowsWithin, StartsPacked};
+ghost use Rattle.objects.specs.Objects.{rows_in, with_rows};
 
-use operations::Operation;
-
-// The value of the row behind one.
-const NEXT_VALUE: usize = layout::ROW + layout::VALUE;
+use operations::{Kind, Operation};
 
 // A kind and a number of rows that an object may have.
 fn is_in_range(kind: u32, count: usize) -> bool
     ensures { (result ≡ true) ↔ InRange kind count }
 {
-    match kind {
-        operations::NONE => count == 0,
-        operations::STACK..=operations::TABLE => count <= layout::ROWS,
-        _ => false,
+    match Kind::try_from(kind) {
+        Ok(Kind::None) => count == 0,
+        Ok(Kind::Stack | Kind::Set | Kind::Table) => count <= layout::ROWS,
+        Err(_) => false,
     }
 }
 
@@ -53,45 +52,34 @@ pub fn packed(book: &[u32]) -> bool
     requires { BookLong book.now }
     ensures { (result ≡ true) ↔ ((o : ℕ) → o < object_count → ObjectPacked book.now o) }
 {
-    for object in 0..layout::OBJECTS {
-        if !is_packed(book, object) {
-            return false;
-        }
-    }
-    true
+    (0..layout::OBJECTS).all(|object| is_packed(book, object))
+}
+
+// The rows of the object that the part starts with.
+fn rows(part: &[u32]) -> &[[u32; 2]]
+    requires { RowsWithin part.now }
+    ensures { map row_of result.now ≡ rows_in part.now }
+{
+    let end = layout::FIRST_ROW + layout::ROW * part[layout::COUNT] as usize;
+    part[layout::FIRST_ROW..end].as_chunks().0
 }
 
 // The second word of each row is 0. No early way out, so that many words are taken at once.
-fn has_no_values(book: &[u32], object: usize) -> bool
-    requires { BookLong book.now × (object < object_count) × ObjectPacked book.now object }
-    ensures { (result ≡ true) ↔ All NoValue (rows_at book.now object) }
+fn has_no_values(rows: &[[u32; 2]]) -> bool
+    ensures { (result ≡ true) ↔ All NoValue (map row_of rows.now) }
 {
-    let rows = layout::rows_start(object);
-    let count = layout::row_count(book, object);
-    let mut seen: u32 = 0;
-    for i in 0..count {
-        seen = seen | book[rows + layout::ROW * i + layout::VALUE];
-    }
-    seen == 0
+    rows.iter().fold(0, |seen, row| seen | row[1]) == 0
 }
 
 // The keys are reduced and strictly ascend: each is below the next, and the last is reduced.
-fn is_keyed(book: &[u32], object: usize) -> bool
-    requires { BookLong book.now × (object < object_count) × ObjectPacked book.now object }
-    ensures { (result ≡ true) ↔ KeyedRows (rows_at book.now object) }
+fn is_keyed(rows: &[[u32; 2]]) -> bool
+    ensures { (result ≡ true) ↔ KeyedRows (map row_of rows.now) }
 {
-    let rows = layout::rows_start(object);
-    let count = layout::row_count(book, object);
-    if count == 0 {
+    let Some(last) = rows.last() else {
         return true;
-    }
-    let last = count - 1;
-    let mut falling = false;
-    for i in 0..last {
-        let at = rows + layout::ROW * i;
-        falling = falling | (book[at + layout::ROW] <= book[at]);
-    }
-    !falling && book[rows + layout::ROW * last] < layout::KEYS
+    };
+    let falling = rows.windows(2).fold(false, |falling, pair| falling | (pair[1][0] <= pair[0][0]));
+    !falling && last[0] < layout::KEYS
 }
 
 // The rows are of the form of the object's kind.
@@ -99,12 +87,13 @@ fn is_formed(book: &[u32], object: usize) -> bool
     requires { BookLong book.now × (object < object_count) × ObjectPacked book.now object }
     ensures { (result ≡ true) ↔ ObjectFormed book.now object }
 {
-    let kind = layout::object_kind(book, object);
-    match kind {
-        operations::STACK => has_no_values(book, object),
-        operations::SET => has_no_values(book, object) && is_keyed(book, object),
-        operations::TABLE => is_keyed(book, object),
-        _ => true,
+    let start = layout::object_start(object);
+    let rows = rows(&book[start..]);
+    match Kind::try_from(book[start]) {
+        Ok(Kind::Stack) => has_no_values(rows),
+        Ok(Kind::Set) => has_no_values(rows) && is_keyed(rows),
+        Ok(Kind::Table) => is_keyed(rows),
+        Ok(Kind::None) | Err(_) => true,
     }
 }
 
@@ -113,65 +102,21 @@ pub fn formed(book: &[u32]) -> bool
     requires { BookLong book.now × ((o : ℕ) → o < object_count → ObjectPacked book.now o) }
     ensures { (result ≡ true) ↔ RowsFormed base (decode base book.now) }
 {
-    for object in 0..layout::OBJECTS {
-        if !is_formed(book, object) {
-            return false;
-        }
-    }
-    true
-}
-
-// The place of the first key that is not below `key`, or the number of rows.
-fn position(part: &[u32], key: u32) -> usize
-    requires { StartsPacked part.now }
-    ensures { result ≡ position_of key (rows_in part.now) }
-{
-    let count = layout::wide(part[layout::COUNT]);
-    let mut at: usize = 0;
-    while at < count {
-        if part[layout::FIRST_ROW + layout::ROW * at] >= key {
-            return at;
-        }
-        at += 1;
-    }
-    at
-}
-
-// Whether a row has the key, whose position is given.
-fn present(part: &[u32], at: usize, key: u32) -> bool
-    requires { StartsPacked part.now × (at ≡ position_of key (rows_in part.now)) }
-    ensures { result ≡ Present key (rows_in part.now) }
-{
-    if at < layout::wide(part[layout::COUNT]) {
-        return part[layout::FIRST_ROW + layout::ROW * at] == key;
-    }
-    false
+    (0..layout::OBJECTS).all(|object| is_formed(book, object))
 }
 
 // Puts a row in at a place; the row there and those after it move up.
-fn open_at(part: &mut [u32], at: usize, key: u32, value: u32)
+fn open_at(part: &mut [u32], at: usize, row: [u32; 2])
     requires { StartsPacked part.old × (at ≤ word part.old 1) × (word part.old 1 < row_limit) }
     ensures { part.new
-        ≡ with_rows part.old (put_at at (row key value) (rows_in part.old)) }
+        ≡ with_rows part.old (put_at at (row_of row) (rows_in part.old)) }
 {
-    let count = layout::wide(part[layout::COUNT]);
-    let mut carried_key = key;
-    let mut carried_value = value;
-    let mut i = at;
-    while i < count {
-        let place = layout::FIRST_ROW + layout::ROW * i;
-        let next_key = part[place];
-        let next_value = part[place + layout::VALUE];
-        part[place] = carried_key;
-        part[place + layout::VALUE] = carried_value;
-        carried_key = next_key;
-        carried_value = next_value;
-        i += 1;
-    }
+    let count = part[layout::COUNT] as usize;
+    let place = layout::FIRST_ROW + layout::ROW * at;
     let end = layout::FIRST_ROW + layout::ROW * count;
-    part[end] = carried_key;
-    part[end + layout::VALUE] = carried_value;
-    part[layout::COUNT] = (count + 1) as u32;
+    part.copy_within(place..end, place + layout::ROW);
+    part[place..place + layout::ROW].copy_from_slice(&row);
+    part[layout::COUNT] += 1;
 }
 
 // Leaves out the row at a place; those after it move down, and the last row's words become 0.
@@ -179,20 +124,12 @@ fn close_at(part: &mut [u32], at: usize)
     requires { StartsPacked part.old × (at < word part.old 1) }
     ensures { part.new ≡ with_rows part.old (removed_at at (rows_in part.old)) }
 {
-    let last = layout::wide(part[layout::COUNT]) - 1;
-    let mut i = at;
-    while i < last {
-        let place = layout::FIRST_ROW + layout::ROW * i;
-        let next_key = part[place + layout::ROW];
-        let next_value = part[place + NEXT_VALUE];
-        part[place] = next_key;
-        part[place + layout::VALUE] = next_value;
-        i += 1;
-    }
-    let end = layout::FIRST_ROW + layout::ROW * last;
-    part[end] = 0;
-    part[end + layout::VALUE] = 0;
-    part[layout::COUNT] = last as u32;
+    let count = part[layout::COUNT] as usize;
+    let place = layout::FIRST_ROW + layout::ROW * at;
+    let end = layout::FIRST_ROW + layout::ROW * count;
+    part.copy_within(place + layout::ROW..end, place);
+    part[end - layout::ROW..end].fill(0);
+    part[layout::COUNT] -= 1;
 }
 
 fn push(part: &mut [u32], item: u32)
@@ -200,8 +137,8 @@ fn push(part: &mut [u32], item: u32)
     ensures { part.new
         ≡ with_rows part.old (rows_in part.old ++ (row item 0 ∷ [])) }
 {
-    let count = layout::wide(part[layout::COUNT]);
-    open_at(part, count, item, 0);
+    let count = part[layout::COUNT] as usize;
+    open_at(part, count, [item, 0]);
 }
 
 fn pop(part: &mut [u32])
@@ -209,7 +146,7 @@ fn pop(part: &mut [u32])
     ensures { part.new
         ≡ with_rows part.old (take (length (rows_in part.old) - 1) (rows_in part.old)) }
 {
-    let count = layout::wide(part[layout::COUNT]);
+    let count = part[layout::COUNT] as usize;
     if count > 0 {
         close_at(part, count - 1);
     }
@@ -220,9 +157,10 @@ fn insert(part: &mut [u32], key: u32, value: u32)
     ensures { part.new
         ≡ with_rows part.old (Inserted key value (rows_in part.old)) }
 {
-    let at = position(part, key);
-    if !present(part, at, key) {
-        open_at(part, at, key, value);
+    let rows = rows(part);
+    let at = replay::position(rows, key);
+    if !replay::present(rows, at, key) {
+        open_at(part, at, [key, value]);
     }
 }
 
@@ -230,8 +168,9 @@ fn delete(part: &mut [u32], key: u32)
     requires { StartsPacked part.old }
     ensures { part.new ≡ with_rows part.old (Deleted key (rows_in part.old)) }
 {
-    let at = position(part, key);
-    if present(part, at, key) {
+    let rows = rows(part);
+    let at = replay::position(rows, key);
+    if replay::present(rows, at, key) {
         close_at(part, at);
     }
 }
@@ -241,8 +180,9 @@ fn modify(part: &mut [u32], key: u32, value: u32)
     ensures { part.new
         ≡ with_rows part.old (Modified key value (rows_in part.old)) }
 {
-    let at = position(part, key);
-    if present(part, at, key) {
+    let rows = rows(part);
+    let at = replay::position(rows, key);
+    if replay::present(rows, at, key) {
         part[layout::FIRST_ROW + layout::ROW * at + layout::VALUE] = value;
     }
 }
@@ -253,9 +193,8 @@ fn fold_part(part: &mut [u32], operation: Operation)
     ensures { part.new
         ≡ with_rows part.old (next_named operation (rows_in part.old)) }
 {
-    let number = operation.number;
     let key = operation.key;
-    match number {
+    match operation.number {
         operations::PUSH => push(part, key),
         operations::POP => pop(part),
         operations::SET_INSERT => insert(part, key, 0),

@@ -1,20 +1,12 @@
 -- Laws of the pair tables, for the functions of `pairs`.
-use Rattle.std.specs.Prelude.{ℕ, zero, suc, ◌+◌, ◌-◌, ◌≤◌, ◌≡◌, Bool, List, [], map, get_or}
-use Rattle.std.proofs.Common.{◌∙◌, sym, ap, subst, not-suc-le-zero, le_of_suc-le-suc, arith}
-use Rattle.std.proofs.Math.ListN.{get_or-map}
+use Rattle.std.specs.Prelude.{ℕ, zero, suc, ◌+◌, ◌-◌, ◌≤◌, ◌≡◌, Bool}
+use Rattle.std.proofs.Common.{◌∙◌, sym, subst, not-suc-le-zero, le_of_suc-le-suc, arith}
 use Rattle.operations.specs.Operations as model
-use Rattle.operations.specs.PairRules.{Rule, never, Rules, rule_at, related, first_number, last_number}
+use Rattle.operations.specs.PairRules.{Rule, Rules, rule_at, related, first_number, last_number}
 use Rattle.operations.specs.PairRules.{kind_numbered, recoverable_rules}
 use Rattle.operations.proofs.Laws.Numbers.{numbered_as}
 use Rattle.operations.specs.declared.Operation.{Operation}
-use Rattle.pairs.specs.Pairs.{code_of, code_at, ByKeys, allows_keys, OneKind, both, pair_of, RowOf, Filled}
-
--- Every look-up: the table of codes has the code of each rule. Outside it both say `never`, whose code is 0.
-pub code : (rules : Rules) (requested logged : ℕ) → get_or (get_or (map (map code_of) rules) requested []) logged 0
-    ≡ code_at rules requested logged
-code rules requested logged =
-    ap (λ row. get_or row logged 0) (get_or-map (map code_of) rules requested [])
-    ∙ get_or-map code_of (get_or rules requested []) logged never
+use Rattle.pairs.specs.Pairs.{code_of, code_at, ByKeys, allows_keys, OneKind, both, pair_of}
 
 -- Both numbers are of the kind.
 abbrev pub Within : model.Kind → ℕ → ℕ → Type 0
@@ -75,17 +67,3 @@ decided rules keyed kind requested logged w found allowed =
     (omega arith) in
     let (by_keys, says) = each_up_to last _ row j (omega arith) in
     allowed (rule_at (rules kind) i j) by_keys found ∙ (rw (atI, atJ) at says)
-
--- `recoverable_row` and `commuting_row`: what each of the three ways out gives.
-module _ (rules : model.Kind → Rules) (requested : ℕ) where
-  pub stack_row : (row : List ℕ) → kind_numbered requested ≡ model.Stack
-      → Filled (get_or (map (map code_of) (rules model.Stack)) (requested - 1) []) row → RowOf rules requested row
-  stack_row row e filled = rw e (λ m k. filled m k ∙ code (rules model.Stack) (requested - 1) m)
-
-  pub set_row : (row : List ℕ) → kind_numbered requested ≡ model.Set
-      → Filled (get_or (map (map code_of) (rules model.Set)) (requested - 4) []) row → RowOf rules requested row
-  set_row row e filled = rw e (λ m k. filled m k ∙ code (rules model.Set) (requested - 4) m)
-
-  pub table_row : kind_numbered requested ≡ model.Table
-      → RowOf rules requested (get_or (map (map code_of) (rules model.Table)) (requested - 7) [])
-  table_row e = rw e (λ m k. code (rules model.Table) (requested - 7) m)

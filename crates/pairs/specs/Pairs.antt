@@ -1,5 +1,5 @@
 -- What the tables of `pairs` say.
-use Rattle.std.specs.Prelude.{ℕ, ◌+◌, ◌-◌, ◌<◌, ◌≡◌, Bool, false, List, get_or}
+use Rattle.std.specs.Prelude.{ℕ, ◌+◌, ◌-◌, ◌<◌, ◌≡◌, Bool, false, List, map, get_or}
 use Rattle.std.proofs.Math.Option.{Option, none, some}
 use Rattle.operations.specs.Operations as model
 use Rattle.operations.specs.PairRules.{Rule, always, never, apart, equal, agreeing, Rules, allows, rule_at}
@@ -7,6 +7,7 @@ use Rattle.operations.specs.PairRules.{first_number, last_number, OfKind, kind_n
 use Rattle.operations.specs.PairRules.{commuting_rules}
 use Rattle.operations.specs.declared.Operation.{Operation}
 use Rattle.operations.specs.Stored.{operation_of}
+use Rattle.pairs.specs.declared.Tables.{Tables}
 
 -- The code of a rule in the tables.
 abbrev pub code_of : Rule → ℕ
@@ -66,6 +67,12 @@ abbrev pub RowOf : (model.Kind → Rules) → ℕ → List ℕ → Type 0
 RowOf rules requested row =
     (m : ℕ) → m < width_of requested → get_or row m 0 ≡ code_at (rules (kind_numbered requested))
     (column_of requested) m
+
+-- The three tables have the codes of the rules.
+abbrev pub HaveCodes : (model.Kind → Rules) → Tables → Type 0
+HaveCodes rules tables =
+    (tables.stack ≡ map (map code_of) (rules model.Stack)) × (tables.set ≡ map (map code_of) (rules model.Set))
+    × (tables.table ≡ map (map code_of) (rules model.Table))
 
 -- Its rows in both tables.
 abbrev pub RowsOf : ℕ → List ℕ → List ℕ → Type 0

@@ -1,15 +1,18 @@
 // The pair rules as constant tables: a row for each requested operation, in it a code for each logged one.
 #![tactic(auto)]
 
-ghost use Rattle.std.specs.Prelude.{◌≡◌, ◌-◌, ◌≤◌};
-ghost use Rattle.operations.specs.PairRules.{Rule, recoverable as Recoverable};
+ghost use Rattle.std.specs.Prelude.{◌≡◌, ◌+◌, ◌-◌, ◌<◌, ◌≤◌, [], get_or};
+ghost use Rattle.operations.specs.Operations as model;
+ghost use Rattle.operations.specs.PairRules.{Rule, Rules, recoverable as Recoverable};
 ghost use Rattle.operations.specs.PairRules.{Numbered, recoverable_rules, commuting_rules};
 ghost use Rattle.operations.specs.PairRules.{stack_recoverable as StackRecoverable, set_recoverable as SetRecoverable};
 ghost use Rattle.operations.specs.PairRules.{table_recoverable as TableRecoverable};
 ghost use Rattle.pairs.specs.Pairs.{OneKind, code_of, code_at, ByKeys, allows_keys, pair_of, RowOf};
-ghost use Rattle.pairs.specs.Pairs.{RowsOf, Filled};
+ghost use Rattle.pairs.specs.Pairs.{RowsOf, Filled, HaveCodes};
 
-use operations::{Operation, PUSH, SET, SET_INSERT, STACK, TABLE_INSERT};
+use operations::{Kind, Operation, PUSH, SET_INSERT, TABLE_INSERT};
+
+// The small codes of the tables, as the paper has them, and so no enum.
 
 pub const NEVER: u8 = 0;
 
@@ -69,27 +72,33 @@ const TABLE_COMMUTING: [[u8; BROAD]; BROAD] = [
     [APART, APART, APART, ALWAYS, AGREEING], // modify with
 ];
 
-// Each look-up takes the two operations' numbers.
+// The code of two operations, by their numbers and that of their kind's first.
+fn code<const N: usize>(table: &[[u8; N]; N], first: u32, requested: u32, logged: u32) -> u8
+    requires { (first ≤ requested) × (requested < first + N) × (first ≤ logged) × (logged < first + N) }
+    ensures { result ≡ get_or (get_or table.now (requested - first) []) (logged - first) 0 }
+{
+    table[(requested - first) as usize][(logged - first) as usize]
+}
 
 pub fn stack_recoverable(requested: u32, logged: u32) -> u8
     requires { (1 ≤ requested) × (requested ≤ 3) × (1 ≤ logged) × (logged ≤ 3) }
     ensures { result ≡ code_at StackRecoverable (requested - 1) (logged - 1) }
 {
-    STACK_RECOVERABLE[(requested - PUSH) as usize][(logged - PUSH) as usize]
+    code(&STACK_RECOVERABLE, PUSH, requested, logged)
 }
 
 pub fn set_recoverable(requested: u32, logged: u32) -> u8
     requires { (4 ≤ requested) × (requested ≤ 6) × (4 ≤ logged) × (logged ≤ 6) }
     ensures { result ≡ code_at SetRecoverable (requested - 4) (logged - 4) }
 {
-    SET_RECOVERABLE[(requested - SET_INSERT) as usize][(logged - SET_INSERT) as usize]
+    code(&SET_RECOVERABLE, SET_INSERT, requested, logged)
 }
 
 pub fn table_recoverable(requested: u32, logged: u32) -> u8
     requires { (7 ≤ requested) × (requested ≤ 11) × (7 ≤ logged) × (logged ≤ 11) }
     ensures { result ≡ code_at TableRecoverable (requested - 7) (logged - 7) }
 {
-    TABLE_RECOVERABLE[(requested - TABLE_INSERT) as usize][(logged - TABLE_INSERT) as usize]
+    code(&TABLE_RECOVERABLE, TABLE_INSERT, requested, logged)
 }
 
 // A row of three codes, filled up to five.
@@ -99,27 +108,38 @@ fn filled(row: [u8; NARROW]) -> [u8; BROAD]
     [row[0], row[1], row[2], NEVER, NEVER]
 }
 
-// The row of a requested operation, by its number: a code for each logged one of its kind.
-
-fn recoverable_row(requested: u32) -> [u8; BROAD]
-    requires { Numbered requested }
-    ensures { RowOf recoverable_rules requested result }
-{
-    match operations::kind_of(requested) {
-        STACK => filled(STACK_RECOVERABLE[(requested - PUSH) as usize]),
-        SET => filled(SET_RECOVERABLE[(requested - SET_INSERT) as usize]),
-        _ => TABLE_RECOVERABLE[(requested - TABLE_INSERT) as usize],
-    }
+// A relation's tables, one for each kind.
+struct Tables {
+    stack: [[u8; NARROW]; NARROW],
+    set: [[u8; NARROW]; NARROW],
+    table: [[u8; BROAD]; BROAD],
 }
 
-fn commuting_row(requested: u32) -> [u8; BROAD]
-    requires { Numbered requested }
-    ensures { RowOf commuting_rules requested result }
-{
-    match operations::kind_of(requested) {
-        STACK => filled(STACK_COMMUTING[(requested - PUSH) as usize]),
-        SET => filled(SET_COMMUTING[(requested - SET_INSERT) as usize]),
-        _ => TABLE_COMMUTING[(requested - TABLE_INSERT) as usize],
+const RECOVERABLE: Tables = Tables {
+    stack: STACK_RECOVERABLE,
+    set: SET_RECOVERABLE,
+    table: TABLE_RECOVERABLE,
+};
+
+const COMMUTING: Tables = Tables {
+    stack: STACK_COMMUTING,
+    set: SET_COMMUTING,
+    table: TABLE_COMMUTING,
+};
+
+impl Tables {
+    // The row of a requested operation, by its number: a code for each logged one of its kind.
+    #[tactic(auto, unfolding(operations::specs::PairRules::kind_numbered))]
+    fn row(&self, requested: u32) -> [u8; BROAD]
+        requires { Numbered requested }
+        ensures { (rules : model.Kind → Rules) → HaveCodes rules self.now → RowOf rules requested result }
+    {
+        match Kind::of(requested) {
+            Kind::Stack => filled(self.stack[(requested - PUSH) as usize]),
+            Kind::Set => filled(self.set[(requested - SET_INSERT) as usize]),
+            Kind::Table => self.table[(requested - TABLE_INSERT) as usize],
+            Kind::None => unreachable!(),
+        }
     }
 }
 
@@ -135,8 +155,8 @@ pub fn rows(requested: u32) -> RuleRows
     ensures { RowsOf requested result.recoverable result.commuting }
 {
     RuleRows {
-        recoverable: recoverable_row(requested),
-        commuting: commuting_row(requested),
+        recoverable: RECOVERABLE.row(requested),
+        commuting: COMMUTING.row(requested),
     }
 }
 
@@ -153,15 +173,18 @@ fn allowed(code: u8, requested: Operation, logged: Operation) -> bool
 }
 
 // Whether the requested operation is recoverable against the logged one, both of one kind.
+#[tactic(auto, unfolding(operations::specs::PairRules::kind_numbered))]
 pub fn recoverable(requested: Operation, logged: Operation) -> bool
     requires { OneKind requested logged }
     ensures { result ≡ pair_of Recoverable requested logged }
 {
     let a = requested.number;
     let b = logged.number;
-    match operations::kind_of(a) {
-        STACK => allowed(stack_recoverable(a, b), requested, logged),
-        SET => allowed(set_recoverable(a, b), requested, logged),
-        _ => allowed(table_recoverable(a, b), requested, logged),
-    }
+    let code = match Kind::of(a) {
+        Kind::Stack => stack_recoverable(a, b),
+        Kind::Set => set_recoverable(a, b),
+        Kind::Table => table_recoverable(a, b),
+        Kind::None => unreachable!(),
+    };
+    allowed(code, requested, logged)
 }

@@ -11,7 +11,6 @@ use Rattle.operations.specs.Operations.{Kind, Operation, Answer, answering, All,
 use Rattle.operations.specs.Operations.{next, reduce_key}
 use Rattle.operations.specs.PairRules.{recoverable, commutes}
 use Rattle.operations.specs.Log.{Entry, after}
-use Rattle.operations.proofs.Laws.Objects.{object}
 use Rattle.bitset.specs.Bitset.{In, Holds, members, size}
 use Rattle.store.specs.Store.{absent, active, pseudo_committed, Logged, Store, status_of, Active, PseudoCommitted}
 use Rattle.store.specs.Store.{pseudo_committed_count, object_of, on_object}

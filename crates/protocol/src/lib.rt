@@ -2,49 +2,56 @@
 // replies.
 #![tactic(auto)]
 
+ghost use Rattle.std.specs.Prelude.{◌≡◌};
+ghost use Rattle.protocol.specs.Calls.{operations_in};
+ghost use Rattle.protocol.specs.Lent.{lent_operations};
+ghost use Rattle.protocol.specs.Refusals.{refusal_number};
+
 use operations::Answer;
 
-// Reasons for saying no, and that there is none.
+// What C reads where no reason applies; those that do are numbered from 1.
 pub const ACCEPTED: u32 = 0;
 
-pub const WRONG_LENGTH: u32 = 1;
+// The reasons for saying no, in the order of their numbers.
+#[derive(Clone, Copy, PartialEq, Eq)]
+pub enum Refusal {
+    WrongLength = 1,
+    ShortList,
+    BadKinds,
+    Unsound,
+    NoSuchTransaction,
+    AlreadyLive,
+    NotActive,
+    // no such object, or one without a kind
+    NoObject,
+    NotOfKind,
+    LogFull,
+    // the object has no room for another row
+    NoRoom,
+    // more operations lent than a batch may have, or a part of one
+    TooMany,
+}
 
-pub const SHORT_LIST: u32 = 2;
-
-pub const BAD_KINDS: u32 = 3;
-
-pub const UNSOUND: u32 = 4;
-
-pub const NO_SUCH_TRANSACTION: u32 = 5;
-
-pub const ALREADY_LIVE: u32 = 6;
-
-pub const NOT_ACTIVE: u32 = 7;
-
-// No such object, or one without a kind.
-pub const NO_OBJECT: u32 = 8;
-
-pub const NOT_OF_KIND: u32 = 9;
-
-pub const LOG_FULL: u32 = 10;
-
-// The object has no room for another row.
-pub const NO_ROOM: u32 = 11;
-
-// More operations lent than a batch may have, or a part of one.
-pub const TOO_MANY: u32 = 12;
+impl Refusal {
+    pub fn number(self) -> u32
+        ensures { result ≡ refusal_number self }
+    {
+        self as u32
+    }
+}
 
 // The most operations of a batch.
 pub const BATCH: usize = 16;
 
-// The words of an operation that is lent: its object, and where the others stand behind it.
+// The words of an operation that is lent: its object, its number, its key or item, and its value.
 pub const OPERATION_WORDS: usize = 4;
 
-pub const LENT_NUMBER: usize = 1;
-
-pub const LENT_KEY: usize = 2;
-
-pub const LENT_VALUE: usize = 3;
+// The operations that are lent, words of each; a part of one at the end is none of them.
+pub fn lent(operations: &[u32]) -> &[[u32; OPERATION_WORDS]]
+    ensures { lent_operations result.now ≡ operations_in operations.now }
+{
+    operations.as_chunks::<OPERATION_WORDS>().0
+}
 
 // What a call replies; `ReplyOf` says which of the paper's each is.
 #[derive(Clone, Copy)]
@@ -63,8 +70,7 @@ pub enum Reply {
     Cancelled(u32),
     // how many rows
     Counted(u32),
-    // the reason
-    Refused(u32),
+    Refused(Refusal),
 }
 
 // What a batch replies: its answers in order, and 0 0 in the places that it doesn't use.

@@ -1,53 +1,86 @@
-// The record of a served line, from its call and its reply.
+// The record of a call that was made, from the call and what was told of it.
 #![tactic(auto)]
 
-ghost use Rattle.std.specs.Prelude.{◌≡◌, true, [], ◌∷◌, ◌++◌, map, ◌*◌, ◌≤◌, min, length, take, drop};
-ghost use Rattle.std.proofs.Math.Option.{none, some};
+ghost use Rattle.std.specs.Prelude.{◌≡◌, true, [], ◌∷◌, map, ◌*◌, ◌≤◌, length};
 ghost use Rattle.operations.specs.Stored.{answer_of};
 ghost use Rattle.store.specs.Store.{list_length};
-ghost use Rattle.protocol.specs.Call.{set_up, operate, batch};
 ghost use Rattle.protocol.specs.Calls.{operation_words, batch_limit};
 ghost use Rattle.protocol.specs.Replies.{answer_numbers as AnswerNumbers};
 ghost use Rattle.protocol.specs.ReplyOf.{reply_of, batched_of, Filled};
-ghost use Rattle.lines.specs.Coded.{call_of, words_of};
-ghost use Rattle.recording.specs.Recording.{given_to, given_to_call, Recorded};
-ghost use Rattle.recording.specs.Parts.{Begins, Named, Called, NumbersPut, Completed};
+ghost use Rattle.lines.specs.Coded.{call_of};
+ghost use Rattle.serving.specs.Told.{outcome_of, FilledIn};
+ghost use Rattle.recording.specs.Recording.{given_to, Recorded};
+ghost use Rattle.recording.specs.Parts.{Begins, Called, NumbersPut, Completed};
 
+use arrayvec::ArrayVec;
 use codes::Numbers;
 use journal::{ARGUMENTS, LISTED, Record};
-use layout::OBJECTS;
-use lines::{Call, Line};
+use lines::Call;
 use operations::Answer;
-use protocol::{BATCH, Batched, OPERATION_WORDS, Reply};
+use protocol::{Batched, OPERATION_WORDS, Reply};
+use serving::Told;
 
-// A record, where there is one: a call that is refused has none.
-#[derive(Drop)]
-pub struct Made {
-    pub is: bool,
-    pub content: Record,
+// ---- Numbers in a record's arrays, 0 behind them
+
+fn array_of<const N: usize>(numbers: &[u32]) -> [u32; N]
+    requires { length numbers.now ≤ N }
+    ensures { Begins numbers.now result }
+{
+    let mut array = [0u32; N];
+    array[..numbers.len()].copy_from_slice(numbers);
+    array
 }
 
-// The letter of no call.
-const NO_LETTER: u8 = 0;
-
-fn least(a: usize, b: usize) -> usize
-    ensures { result ≡ min a b }
+// Bytes as numbers. They are written by place: an `ArrayVec` of any capacity asks for a bound on its size.
+fn widened<const N: usize>(bytes: &[u8]) -> [u32; N]
+    requires { length bytes.now ≤ N }
+    ensures { Begins bytes.now result }
 {
-    if a < b { a } else { b }
+    let mut numbers = [0u32; N];
+    for (i, byte) in bytes.iter().enumerate() {
+        numbers[i] = u32::from(*byte);
+    }
+    numbers
 }
 
-// Puts bytes as numbers at the front of others.
-fn put_bytes(numbers: &mut [u32], bytes: &[u8])
-    requires { length bytes.now ≤ length numbers.old }
-    ensures { numbers.new
-        ≡ bytes.now ++ drop (length bytes.now) numbers.old }
+// A batch's arguments: its transaction, then its operations.
+fn batch_arguments(transaction: u32, operations: &[u32]) -> [u32; ARGUMENTS]
+    requires { length operations.now ≤ operation_words * batch_limit }
+    ensures { Begins (transaction ∷ operations.now) result }
 {
-    for i in 0..bytes.len() {
-        numbers[i] = bytes[i] as u32;
+    let mut arguments = ArrayVec::<u32, ARGUMENTS>::new();
+    arguments.push(transaction);
+    let _ = arguments.try_extend_from_slice(operations);
+    array_of(&arguments)
+}
+
+// The numbers of a batch's answers.
+fn answer_numbers(answers: &[Answer]) -> [u32; LISTED]
+    requires { length answers.now ≤ batch_limit }
+    ensures { Begins (AnswerNumbers (map answer_of answers.now)) result }
+{
+    let mut numbers = ArrayVec::<u32, LISTED>::new();
+    for answer in answers {
+        numbers.push(answer.code);
+        numbers.push(answer.value);
+    }
+    array_of(&numbers)
+}
+
+// The numbers behind a reply code: an answer, or the list.
+fn behind(told: Numbers, list: &[u8]) -> [u32; LISTED]
+    requires { length list.now ≤ list_length }
+    ensures { NumbersPut told list.now result }
+{
+    if told.code == codes::ANSWERED {
+        array_of(&[told.answer, told.value])
+    } else {
+        widened(list)
     }
 }
 
-// A record of a call alone.
+// ---- A call's part of its record
+
 fn named(letter: u8, operations: usize, arguments: [u32; ARGUMENTS]) -> Record
     ensures { (result.letter ≡ letter) × (result.operations ≡ operations) × (result.arguments ≡ arguments) }
 {
@@ -62,154 +95,79 @@ fn named(letter: u8, operations: usize, arguments: [u32; ARGUMENTS]) -> Record
     }
 }
 
-fn empty() -> Record
-    ensures { Called none result }
+fn called(call: &Call) -> Record
+    ensures { Called (call_of call.now) result }
 {
-    named(NO_LETTER, 0, [0; ARGUMENTS])
-}
-
-fn of_set_up(kinds: [u8; OBJECTS]) -> Record
-    ensures { Called (some (set_up kinds)) result }
-{
-    let mut arguments = [0u32; ARGUMENTS];
-    put_bytes(&mut arguments, &kinds);
-    named(b'S', 0, arguments)
-}
-
-// A call that has a transaction alone.
-fn of_transaction(letter: u8, transaction: u32) -> Record
-    ensures { Named letter 0 (transaction ∷ []) result }
-{
-    let mut arguments = [0u32; ARGUMENTS];
-    arguments[0] = transaction;
-    named(letter, 0, arguments)
-}
-
-fn of_operation(transaction: u32, object: u32, operation: u32, key: u32, value: u32) -> Record
-    ensures { Called (some (operate transaction object operation key value)) result }
-{
-    let mut arguments = [0u32; ARGUMENTS];
-    arguments[0] = transaction;
-    arguments[1] = object;
-    arguments[2] = operation;
-    arguments[3] = key;
-    arguments[4] = value;
-    named(b'I', 0, arguments)
-}
-
-// A batch's arguments: its transaction, then its operations.
-fn batch_arguments(transaction: u32, operations: &[u32]) -> [u32; ARGUMENTS]
-    requires { length operations.now ≤ operation_words * batch_limit }
-    ensures { Begins (transaction ∷ operations.now) result }
-{
-    let mut arguments = [0u32; ARGUMENTS];
-    arguments[0] = transaction;
-    for i in 0..operations.len() {
-        arguments[i + 1] = operations[i];
-    }
-    arguments
-}
-
-fn of_batch(transaction: u32, operations: &[u32]) -> Record
-    requires { length operations.now ≤ operation_words * batch_limit }
-    ensures { Called (some (batch transaction operations.now)) result }
-{
-    named(
-        b'G',
-        operations.len() / OPERATION_WORDS,
-        batch_arguments(transaction, operations),
-    )
-}
-
-fn called(asked: Line) -> Record
-    requires { words_of asked.call ≤ operation_words * batch_limit }
-    ensures { Called (call_of asked.call asked.kinds asked.operations) result }
-{
-    let call = asked.call;
-    let kinds = asked.kinds;
-    let operations = asked.operations;
     match call {
-        Call::SetUp => of_set_up(kinds),
-        Call::Begin(transaction) => of_transaction(b'B', transaction),
-        Call::Operate(transaction, object, operation, key, value) => {
-            of_operation(transaction, object, operation, key, value)
-        }
-        Call::Batch(transaction, words) => of_batch(transaction, &operations[..words]),
-        Call::Finish(transaction) => of_transaction(b'F', transaction),
-        Call::Cancel(transaction) => of_transaction(b'C', transaction),
-        Call::Unread => empty(),
+        Call::SetUp(kinds) => named(b'S', 0, widened(kinds)),
+        Call::Begin(transaction) => named(b'B', 0, array_of(&[*transaction])),
+        Call::Operate {
+            transaction,
+            object,
+            operation,
+            key,
+            value,
+        } => named(
+            b'I',
+            0,
+            array_of(&[*transaction, *object, *operation, *key, *value]),
+        ),
+        Call::Batch(transaction, operations) => named(
+            b'G',
+            operations.len() / OPERATION_WORDS,
+            batch_arguments(*transaction, operations),
+        ),
+        Call::Finish(transaction) => named(b'F', 0, array_of(&[*transaction])),
+        Call::Cancel(transaction) => named(b'C', 0, array_of(&[*transaction])),
     }
 }
 
-// The numbers behind a reply code: an answer, or the list.
-fn behind(told: Numbers, list: &[u8]) -> [u32; LISTED]
-    requires { length list.now ≤ list_length }
-    ensures { NumbersPut told list.now result }
-{
-    let mut numbers = [0u32; LISTED];
-    if told.code == codes::ANSWERED {
-        numbers[0] = told.answer;
-        numbers[1] = told.value;
-    } else {
-        put_bytes(&mut numbers, list);
-    }
-    numbers
-}
+// ---- The record
 
-// The numbers of a batch's answers.
-fn answer_numbers(answers: [Answer; BATCH], count: usize) -> [u32; LISTED]
-    requires { count ≤ length answers }
-    ensures { Begins (AnswerNumbers (map answer_of (take count answers))) result }
-{
-    let mut numbers = [0u32; LISTED];
-    for i in 0..count {
-        let answer = answers[i];
-        numbers[2 * i] = answer.code;
-        numbers[2 * i + 1] = answer.value;
-    }
-    numbers
-}
-
-// The record of a call, with its reply.
-fn with_reply(call: Record, told: Numbers, listed: usize, numbers: [u32; LISTED]) -> Made
+// A call's part completed with its reply's numbers. A call that is refused has no record.
+fn completed(call: Record, told: Numbers, listed: usize, numbers: [u32; LISTED]) -> Option<Record>
     ensures { Completed call told listed numbers result }
 {
-    let mut content = call;
-    content.code = told.code;
-    content.owners = told.owners;
-    content.listed = listed;
-    content.numbers = numbers;
-    Made {
-        is: told.refusal == protocol::ACCEPTED && content.letter != NO_LETTER,
-        content,
+    if told.refusal != protocol::ACCEPTED {
+        return None;
     }
+    Some(Record {
+        code: told.code,
+        owners: told.owners,
+        listed,
+        numbers,
+        ..call
+    })
 }
 
-// The record of a call, from a reply that has no more than one answer.
-pub fn record_of(asked: Line, reply: Reply, list: &[u8]) -> Made
-    requires { (given_to_call (call_of asked.call asked.kinds asked.operations) (reply_of reply) ≡ true)
-        × (words_of asked.call ≤ operation_words * batch_limit) × (length list.now ≤ list_length) }
-    ensures { Recorded (call_of asked.call asked.kinds asked.operations) (reply_of reply)
-        list.now result }
+fn with_list(call: &Call, reply: Reply, list: &[u8]) -> Option<Record>
+    requires given { given_to (call_of call.now) (reply_of reply) ≡ true }
+    requires few { length list.now ≤ list_length }
+    ensures { Recorded (call_of call.now) (reply_of reply) list.now result }
 {
-    let told = codes::numbers_of(reply);
-    let count = told.count as usize;
-    let listed = least(count, list.len());
-    let numbers = behind(told, &list[..listed]);
-    let call = called(asked);
-    with_reply(call, told, listed, numbers)
+    let told = Numbers::from(reply);
+    let listed = list.len().min(told.count as usize);
+    completed(called(call), told, listed, behind(told, &list[..listed]))
 }
 
-// The record of a batch.
-pub fn record_of_batch(transaction: u32, operations: &[u32], batched: Batched) -> Made
-    requires { Filled batched × (given_to (batch transaction operations.now) (batched_of batched) ≡ true)
-        × (length operations.now ≤ operation_words * batch_limit) }
-    ensures { Recorded (some (batch transaction operations.now)) (batched_of batched) [] result }
+fn with_answers(call: &Call, batched: &Batched) -> Option<Record>
+    requires given { given_to (call_of call.now) (batched_of batched.now) ≡ true }
+    requires filled { Filled batched.now }
+    ensures { Recorded (call_of call.now) (batched_of batched.now) [] result }
 {
-    let reply = batched.reply;
-    let told = codes::numbers_of(reply);
-    let answers = batched.answers;
-    let numbers = answer_numbers(answers, batched.count);
-    let call = of_batch(transaction, operations);
-    with_reply(call, told, 0, numbers)
+    let told = Numbers::from(batched.reply);
+    let numbers = answer_numbers(&batched.answers[..batched.count]);
+    completed(called(call), told, 0, numbers)
+}
+
+pub fn record_of(call: &Call, told: &Told) -> Option<Record>
+    requires given { given_to (call_of call.now) (outcome_of told.now).reply ≡ true }
+    requires filled { FilledIn told.now }
+    ensures { Recorded (call_of call.now) (outcome_of told.now).reply (outcome_of told.now).list result }
+{
+    match told {
+        Told::Plain(reply) => with_list(call, *reply, b""),
+        Told::Listed(reply, list) => with_list(call, *reply, list),
+        Told::Answered(batched) => with_answers(call, batched),
+    }
 }

@@ -3,122 +3,109 @@
 
 ghost use Rattle.std.specs.Prelude.{◌≡◌, [], ◌∷◌, ◌++◌, map, ◌+◌, ◌-◌, ◌<◌, ◌≤◌, length, take};
 ghost use Rattle.operations.specs.Operations.{row_limit};
-ghost use Rattle.operations.specs.Operations.{row, flag as Flag, valued, top_item, found, present as Present};
+ghost use Rattle.operations.specs.Operations.{row, top_item, found, present as Present};
 ghost use Rattle.operations.specs.Operations.{inserted as Inserted, deleted as Deleted, modified as Modified};
-ghost use Rattle.operations.specs.Stored.{answer_of};
+ghost use Rattle.operations.specs.Stored.{answer_of, found_of};
 ghost use Rattle.replay.specs.Replay.{next_named, answer_named, row_of, rows_of, BeginsWith, Placed};
 ghost use Rattle.replay.specs.Replay.{position_of, put_at, removed_at};
 
-use operations::{Answer, Operation};
+use operations::{Answer, Kind, Operation};
 
 // The rows that an object has room for, and the copy.
 pub const ROWS: usize = 64;
 
 // The place of the first key that is not below `key`, or the number of rows.
-fn position(rows: &[[u32; 2]; ROWS], count: usize, key: u32) -> usize
-    requires { count ≤ row_limit }
-    ensures { result ≡ position_of key (rows_of rows.now count) }
+pub fn position(rows: &[[u32; 2]], key: u32) -> usize
+    ensures { result ≡ position_of key (map row_of rows.now) }
 {
-    let whole = &rows[..];
-    let filled = &whole[..count];
-    let mut at: usize = 0;
-    while at < filled.len() {
-        if filled[at][0] >= key {
-            return at;
-        }
-        at += 1;
-    }
-    at
+    rows.iter()
+        .position(|row| key <= row[0])
+        .unwrap_or(rows.len())
 }
 
 // The place for an operation: its key is looked up once, and what replays it is handed the place.
+#[tactic(auto, unfolding(operations::specs::PairRules::kind_numbered))]
 pub fn place(rows: &[[u32; 2]; ROWS], count: usize, operation: Operation) -> usize
     requires { count ≤ row_limit }
     ensures { Placed operation (rows_of rows.now count) result }
 {
-    if operation.number < operations::SET_INSERT {
-        return 0;
+    match Kind::of(operation.number) {
+        Kind::Stack => 0,
+        _ => position(&rows[..count], operation.key),
     }
-    position(rows, count, operation.key)
 }
 
 // Whether a row has the key, whose position is given.
-fn present(rows: &[[u32; 2]], at: usize, key: u32) -> bool
+pub fn present(rows: &[[u32; 2]], at: usize, key: u32) -> bool
     requires { at ≡ position_of key (map row_of rows.now) }
     ensures { result ≡ Present key (map row_of rows.now) }
 {
-    if at < rows.len() {
-        return rows[at][0] == key;
-    }
-    false
+    rows.get(at).is_some_and(|row| row[0] == key)
 }
 
-// Puts the pair in at a place; the row there and those after it move up.
-fn open_at(rows: &mut [[u32; 2]; ROWS], count: usize, at: usize, pair: [u32; 2])
-    requires { (at ≤ count) × (count < row_limit) × (length rows.old ≡ row_limit) }
-    ensures { take (count + 1) rows.new ≡ put_at at pair (take count rows.old) }
+// Puts the pair in at a place of the rows, of which the last is free; the row there and those after it move up.
+fn open_at(rows: &mut [[u32; 2]], at: usize, pair: [u32; 2])
+    requires { at < length rows.old }
+    ensures { rows.new ≡ put_at at pair (take (length rows.old - 1) rows.old) }
 {
-    let mut carried = pair;
-    let mut i = at;
-    while i < count {
-        let moved = rows[i];
-        rows[i] = carried;
-        carried = moved;
-        i += 1;
-    }
-    rows[count] = carried;
+    let last = rows.len() - 1;
+    rows.copy_within(at..last, at + 1);
+    rows[at] = pair;
 }
 
-// Leaves out the row at a place; those after it move down.
-fn close_at(rows: &mut [[u32; 2]; ROWS], count: usize, at: usize)
-    requires { (at < count) × (count ≤ row_limit) × (length rows.old ≡ row_limit) }
-    ensures { take (count - 1) rows.new ≡ removed_at at (take count rows.old) }
+// Leaves out the row at a place; those after it move down, and the last is free.
+fn close_at(rows: &mut [[u32; 2]], at: usize)
+    requires { at < length rows.old }
+    ensures { take (length rows.old - 1) rows.new ≡ removed_at at rows.old }
 {
-    let mut i = at;
-    while i + 1 < count {
-        let moved = rows[i + 1];
-        rows[i] = moved;
-        i += 1;
-    }
+    rows.copy_within(at + 1.., at);
 }
 
-fn push(rows: [[u32; 2]; ROWS], count: usize, item: u32) -> [[u32; 2]; ROWS]
+fn push(mut rows: [[u32; 2]; ROWS], count: usize, item: u32) -> [[u32; 2]; ROWS]
     requires { count < row_limit }
     ensures { BeginsWith result (rows_of rows count ++ (row item 0 ∷ [])) }
 {
-    let mut rows = rows;
     rows[count] = [item, 0];
     rows
 }
 
-fn insert(rows: [[u32; 2]; ROWS], count: usize, at: usize, key: u32, value: u32) -> [[u32; 2]; ROWS]
+fn insert(
+    mut rows: [[u32; 2]; ROWS],
+    count: usize,
+    at: usize,
+    key: u32,
+    value: u32,
+) -> [[u32; 2]; ROWS]
     requires { (count ≤ row_limit) × (length (Inserted key value (rows_of rows count)) ≤ row_limit)
         × (at ≡ position_of key (rows_of rows count)) }
     ensures { BeginsWith result (Inserted key value (rows_of rows count)) }
 {
-    let mut rows = rows;
     if !present(&rows[..count], at, key) {
-        open_at(&mut rows, count, at, [key, value]);
+        open_at(&mut rows[..count + 1], at, [key, value]);
     }
     rows
 }
 
-fn delete(rows: [[u32; 2]; ROWS], count: usize, at: usize, key: u32) -> [[u32; 2]; ROWS]
+fn delete(mut rows: [[u32; 2]; ROWS], count: usize, at: usize, key: u32) -> [[u32; 2]; ROWS]
     requires { (count ≤ row_limit) × (at ≡ position_of key (rows_of rows count)) }
     ensures { BeginsWith result (Deleted key (rows_of rows count)) }
 {
-    let mut rows = rows;
     if present(&rows[..count], at, key) {
-        close_at(&mut rows, count, at);
+        close_at(&mut rows[..count], at);
     }
     rows
 }
 
-fn modify(rows: [[u32; 2]; ROWS], count: usize, at: usize, key: u32, value: u32) -> [[u32; 2]; ROWS]
+fn modify(
+    mut rows: [[u32; 2]; ROWS],
+    count: usize,
+    at: usize,
+    key: u32,
+    value: u32,
+) -> [[u32; 2]; ROWS]
     requires { (count ≤ row_limit) × (at ≡ position_of key (rows_of rows count)) }
     ensures { BeginsWith result (Modified key value (rows_of rows count)) }
 {
-    let mut rows = rows;
     if present(&rows[..count], at, key) {
         rows[at] = [key, value];
     }
@@ -138,9 +125,8 @@ pub fn next_rows(
     ensures { rows_of result (length (next_named operation (rows_of rows count)))
         ≡ next_named operation (rows_of rows count) }
 {
-    let number = operation.number;
     let key = operation.key;
-    match number {
+    match operation.number {
         operations::PUSH => push(rows, count, key),
         operations::SET_INSERT => insert(rows, count, at, key, 0),
         operations::SET_DELETE | operations::TABLE_DELETE => delete(rows, count, at, key),
@@ -155,62 +141,37 @@ pub fn next_count(rows: &[[u32; 2]; ROWS], count: usize, at: usize, operation: O
     requires { (count ≤ row_limit) × Placed operation (rows_of rows.now count) at }
     ensures { result ≡ length (next_named operation (rows_of rows.now count)) }
 {
-    let whole = &rows[..];
-    let filled = &whole[..count];
-    let number = operation.number;
+    let filled = &rows[..count];
     let key = operation.key;
-    match number {
+    match operation.number {
         operations::PUSH => count + 1,
-        operations::POP => if count == 0 { 0 } else { count - 1 },
-        operations::SET_INSERT | operations::TABLE_INSERT => if present(filled, at, key) {
-            count
-        } else {
-            count + 1
-        },
-        operations::SET_DELETE | operations::TABLE_DELETE => if present(filled, at, key) {
-            count - 1
-        } else {
-            count
-        },
+        operations::POP => count.saturating_sub(1),
+        operations::SET_INSERT | operations::TABLE_INSERT => {
+            count + usize::from(!present(filled, at, key))
+        }
+        operations::SET_DELETE | operations::TABLE_DELETE => {
+            count - usize::from(present(filled, at, key))
+        }
         _ => count,
     }
 }
 
-// `1 0` or `0 0`.
-fn flag(b: bool) -> Answer
-    ensures { answer_of result ≡ Flag b }
+// The item on top.
+fn top(rows: &[[u32; 2]]) -> Option<u32>
+    ensures { found_of result ≡ top_item (map row_of rows.now) }
 {
-    if b {
-        return Answer { code: 1, value: 0 };
-    }
-    Answer { code: 0, value: 0 }
-}
-
-fn top(rows: &[[u32; 2]]) -> Answer
-    ensures { answer_of result ≡ valued (top_item (map row_of rows.now)) }
-{
-    let count = rows.len();
-    if count == 0 {
-        return Answer { code: 0, value: 0 };
-    }
-    Answer {
-        code: 1,
-        value: rows[count - 1][0],
-    }
+    rows.last().map(|row| row[0])
 }
 
 // The value in the key's row, whose position is given.
-fn lookup(rows: &[[u32; 2]], at: usize, key: u32) -> Answer
+fn lookup(rows: &[[u32; 2]], at: usize, key: u32) -> Option<u32>
     requires { at ≡ position_of key (map row_of rows.now) }
-    ensures { answer_of result ≡ valued (found key (map row_of rows.now)) }
+    ensures { found_of result ≡ found key (map row_of rows.now) }
 {
     if present(rows, at, key) {
-        return Answer {
-            code: 1,
-            value: rows[at][1],
-        };
+        return Some(rows[at][1]);
     }
-    Answer { code: 0, value: 0 }
+    None
 }
 
 // What the operation answers.
@@ -218,23 +179,18 @@ pub fn answer(rows: &[[u32; 2]; ROWS], count: usize, at: usize, operation: Opera
     requires { (count ≤ row_limit) × Placed operation (rows_of rows.now count) at }
     ensures { answer_of result ≡ answer_named operation (rows_of rows.now count) }
 {
-    let whole = &rows[..];
-    let filled = &whole[..count];
-    let number = operation.number;
+    let filled = &rows[..count];
     let key = operation.key;
-    match number {
-        operations::PUSH | operations::SET_INSERT => Answer { code: 1, value: 0 },
-        operations::POP | operations::TOP => top(filled),
+    match operation.number {
+        operations::PUSH | operations::SET_INSERT => Answer::from(true),
+        operations::POP | operations::TOP => Answer::from(top(filled)),
         operations::SET_DELETE
         | operations::MEMBER
         | operations::TABLE_DELETE
-        | operations::MODIFY => { flag(present(filled, at, key)) }
-        operations::TABLE_INSERT => flag(!present(filled, at, key)),
-        operations::LOOKUP => lookup(filled, at, key),
-        operations::SIZE => Answer {
-            code: 1,
-            value: count as u32,
-        },
-        _ => Answer { code: 0, value: 0 },
+        | operations::MODIFY => Answer::from(present(filled, at, key)),
+        operations::TABLE_INSERT => Answer::from(!present(filled, at, key)),
+        operations::LOOKUP => Answer::from(lookup(filled, at, key)),
+        operations::SIZE => Answer::from(Some(count as u32)),
+        _ => Answer::from(false),
     }
 }

@@ -1,16 +1,17 @@
-// A reply, put into a buffer as it is printed.
+// A reply, appended to a text as it is printed.
 #![tactic(auto)]
 
-ghost use Rattle.std.specs.Prelude.{◌≡◌, [], ◌∷◌, map, ◌+◌, ◌*◌, ◌≤◌, min, length, take};
+ghost use Rattle.std.specs.Prelude.{◌≡◌, [], ◌∷◌, ◌++◌, map, ◌+◌, ◌*◌, ◌≤◌, length, take};
+ghost use Rattle.arrayvec.specs.ArrayVec.{array_vec_len};
 ghost use Rattle.operations.specs.Stored.{answer_of};
 ghost use Rattle.bitset.specs.Bitset.{members};
 ghost use Rattle.store.specs.Store.{transaction_count};
 ghost use Rattle.protocol.specs.Calls.{batch_limit};
 ghost use Rattle.protocol.specs.ReplyOf.{reply_of, batched_of, Filled};
-ghost use Rattle.text.specs.Fields.{Put};
 ghost use Rattle.protocol.specs.Replies.{answer_numbers};
 ghost use Rattle.replies.specs.Printed.{word_of, printed_numbers, spaced, printed};
 
+use arrayvec::ArrayVec;
 use operations::Answer;
 use protocol::{BATCH, Batched, Reply};
 
@@ -18,144 +19,122 @@ use protocol::{BATCH, Batched, Reply};
 // space and ten digits at most.
 pub const MOST: usize = 6 + 2 * (1 + text::MOST_DIGITS) * BATCH + 1;
 
-// Puts a number behind a space.
-pub fn put_field(out: &mut [u8], at: usize, number: u32) -> usize
-    requires { at + length (spaced (number ∷ [])) ≤ length out.old }
-    ensures { Put out.old at (spaced (number ∷ [])) out.new result × (result ≤ at + 11) }
+// Appends a number behind a space.
+pub fn put_field<const N: usize>(out: &mut ArrayVec<u8, N>, number: u32)
+    requires room { array_vec_len out.old + length (spaced (number ∷ [])) ≤ N }
+    ensures text { out.new.items ≡ out.old.items ++ spaced (number ∷ []) }
+    ensures few { array_vec_len out.new ≤ array_vec_len out.old + 11 }
 {
-    let end = text::put(out, at, b" ");
-    text::put_decimal(out, end, number)
+    out.push(b' ');
+    text::put_decimal(out, number);
 }
 
-fn least(a: usize, b: usize) -> usize
-    ensures { result ≡ min a b }
+// Appends the numbers at the front of a list, each a space and three digits at most.
+fn put_front<const N: usize>(out: &mut ArrayVec<u8, N>, list: &[u8], count: u32)
+    requires room { array_vec_len out.old + 4 * length list.now ≤ N }
+    ensures text { out.new.items ≡ out.old.items ++ spaced (take count list.now) }
+    ensures few { array_vec_len out.new ≤ array_vec_len out.old + 4 * length list.now }
 {
-    if a < b { a } else { b }
-}
-
-fn wide(byte: u8) -> u32
-    ensures { result ≡ byte }
-{
-    byte as u32
-}
-
-// Puts the numbers at the front of a list.
-fn put_front(out: &mut [u8], at: usize, list: &[u8], count: u32) -> usize
-    requires { at + 4 * length list.now ≤ length out.old }
-    ensures { Put out.old at (spaced (take count list.now)) out.new result
-        × (result ≤ at + 4 * length list.now) }
-{
-    let front = least(count as usize, list.len());
-    let mut end = at;
-    for i in 0..front {
-        end = put_field(out, end, wide(list[i]));
+    for byte in list.iter().take(count as usize) {
+        put_field(out, u32::from(*byte));
     }
-    end
 }
 
-// Puts the members of a set, ascending: each a space and two digits at most.
-pub fn put_members(out: &mut [u8], at: usize, set: u64) -> usize
-    requires { at + 3 * transaction_count ≤ length out.old }
-    ensures { Put out.old at (spaced (members set)) out.new result
-        × (result ≤ at + 3 * transaction_count) }
+// Appends the members of a set, ascending: each a space and two digits at most. `journal_writer` puts them in groups of
+// bits: a loop of its own is plainer than one that is handed how to put a number.
+pub fn put_members<const N: usize>(out: &mut ArrayVec<u8, N>, set: u64)
+    requires room { array_vec_len out.old + 3 * transaction_count ≤ N }
+    ensures text { out.new.items ≡ out.old.items ++ spaced (members set) }
+    ensures few { array_vec_len out.new ≤ array_vec_len out.old + 3 * transaction_count }
 {
-    let mut left = set;
-    let mut end = at;
-    while left != 0 {
-        let lowest = bitset::lowest(left);
-        left = bitset::without(left, lowest);
-        end = put_field(out, end, lowest);
+    for member in bitset::members(set) {
+        put_field(out, member);
     }
-    end
 }
 
-// Puts an answer's numbers, each a space and ten digits at most.
-fn put_answer(out: &mut [u8], at: usize, code: u32, value: u32) -> usize
-    requires { at + 22 ≤ length out.old }
-    ensures { Put out.old at (spaced (code ∷ value ∷ [])) out.new result × (result ≤ at + 22) }
+// Appends an answer's numbers, each a space and ten digits at most.
+#[tactic(auto, using(crate::proofs::Laws::Printing::field_few))]
+fn put_answer<const N: usize>(out: &mut ArrayVec<u8, N>, code: u32, value: u32)
+    requires room { array_vec_len out.old + 22 ≤ N }
+    ensures text { out.new.items ≡ out.old.items ++ spaced (code ∷ value ∷ []) }
+    ensures few { array_vec_len out.new ≤ array_vec_len out.old + 22 }
 {
-    let end = put_field(out, at, code);
-    put_field(out, end, value)
+    put_field(out, code);
+    put_field(out, value);
 }
 
-// Puts the first answers of a batch.
-fn put_answers(out: &mut [u8], at: usize, answers: [Answer; BATCH], count: usize) -> usize
-    requires { (at + 22 * batch_limit ≤ length out.old) × (count ≤ length answers) }
-    ensures { Put out.old at (spaced (answer_numbers (map answer_of (take count answers))))
-        out.new result
-        × (result ≤ at + 22 * batch_limit) }
+// Appends a batch's answers.
+fn put_answers<const N: usize>(out: &mut ArrayVec<u8, N>, answers: &[Answer])
+    requires room { array_vec_len out.old + 22 * batch_limit ≤ N }
+    requires short { length answers.now ≤ batch_limit }
+    ensures text { out.new.items ≡ out.old.items ++ spaced (answer_numbers (map answer_of answers.now)) }
+    ensures few { array_vec_len out.new ≤ array_vec_len out.old + 22 * batch_limit }
 {
-    let mut end = at;
-    for i in 0..count {
-        let answer = answers[i];
-        end = put_answer(out, end, answer.code, answer.value);
+    for answer in answers {
+        put_answer(out, answer.code, answer.value);
     }
-    end
 }
 
-fn put_word(out: &mut [u8], at: usize, reply: Reply) -> usize
-    requires { at + 9 ≤ length out.old }
-    ensures { Put out.old at (word_of (reply_of reply)) out.new result }
+fn word(reply: Reply) -> &'static [u8]
+    ensures { result.now ≡ word_of (reply_of reply) }
 {
     match reply {
-        Reply::Ok => text::put(out, at, b"ok"),
-        Reply::Answered(_, _) => text::put(out, at, b"answer"),
-        Reply::Answers => text::put(out, at, b"answer"),
-        Reply::Wait(_, _) => text::put(out, at, b"wait"),
-        Reply::Finished => text::put(out, at, b"finished"),
-        Reply::Committed(_) => text::put(out, at, b"committed"),
-        Reply::Circle(_) => text::put(out, at, b"circle"),
-        Reply::Cancelled(_) => text::put(out, at, b"cancelled"),
-        Reply::Counted(_) => text::put(out, at, b"counted"),
-        Reply::Refused(_) => text::put(out, at, b"refused"),
+        Reply::Ok => b"ok",
+        Reply::Answered(_, _) | Reply::Answers => b"answer",
+        Reply::Wait(_, _) => b"wait",
+        Reply::Finished => b"finished",
+        Reply::Committed(_) => b"committed",
+        Reply::Circle(_) => b"circle",
+        Reply::Cancelled(_) => b"cancelled",
+        Reply::Counted(_) => b"counted",
+        Reply::Refused(_) => b"refused",
     }
 }
 
-// Puts the numbers behind the word.
-fn put_numbers(out: &mut [u8], at: usize, reply: Reply, list: &[u8]) -> usize
-    requires { (at + 256 ≤ length out.old) × (length list.now ≤ 64) }
-    ensures { Put out.old at (spaced (printed_numbers (reply_of reply) list.now))
-        out.new result
-        × (result ≤ at + 256) }
+// Appends the numbers behind the word.
+#[tactic(auto, using(crate::proofs::Laws::Printing::field_few))]
+fn put_numbers<const N: usize>(out: &mut ArrayVec<u8, N>, reply: Reply, list: &[u8])
+    requires room { array_vec_len out.old + 256 ≤ N }
+    requires short { length list.now ≤ 64 }
+    ensures text { out.new.items ≡ out.old.items ++ spaced (printed_numbers (reply_of reply) list.now) }
+    ensures few { array_vec_len out.new ≤ array_vec_len out.old + 256 }
 {
     match reply {
-        Reply::Ok => at,
-        Reply::Answered(code, value) => put_answer(out, at, code, value),
-        Reply::Answers => at,
+        Reply::Ok | Reply::Answers | Reply::Finished => {}
+        Reply::Answered(code, value) => put_answer(out, code, value),
         Reply::Wait(owners, count) => {
-            let end = put_field(out, at, count);
-            put_members(out, end, owners)
+            put_field(out, count);
+            put_members(out, owners);
         }
-        Reply::Finished => at,
-        Reply::Committed(count) => put_front(out, at, list, count),
-        Reply::Circle(count) => put_front(out, at, list, count),
-        Reply::Cancelled(count) => put_front(out, at, list, count),
-        Reply::Counted(rows) => put_field(out, at, rows),
-        Reply::Refused(reason) => put_field(out, at, reason),
+        Reply::Committed(count) | Reply::Circle(count) | Reply::Cancelled(count) => put_front(
+            out, list, count,
+        ),
+        Reply::Counted(rows) => put_field(out, rows),
+        Reply::Refused(reason) => put_field(out, reason.number()),
     }
 }
 
-// Puts a reply without its line feed; a batch's answers stand beside it, and `put_batched` puts them.
-pub fn put_reply(out: &mut [u8], at: usize, reply: Reply, list: &[u8]) -> usize
-    requires { (at + 265 ≤ length out.old) × (length list.now ≤ 64) }
-    ensures { Put out.old at (printed (reply_of reply) list.now) out.new result
-        × (result ≤ at + 265) }
+// Appends a reply without its line feed; a batch's answers stand beside it, and `put_batched` appends them.
+pub fn put_reply<const N: usize>(out: &mut ArrayVec<u8, N>, reply: Reply, list: &[u8])
+    requires room { array_vec_len out.old + 265 ≤ N }
+    requires short { length list.now ≤ 64 }
+    ensures text { out.new.items ≡ out.old.items ++ printed (reply_of reply) list.now }
+    ensures few { array_vec_len out.new ≤ array_vec_len out.old + 265 }
 {
-    let end = put_word(out, at, reply);
-    put_numbers(out, end, reply, list)
+    let _ = out.try_extend_from_slice(word(reply));
+    put_numbers(out, reply, list);
 }
 
-// Puts a batch's reply without its line feed.
-pub fn put_batched(out: &mut [u8], at: usize, batched: Batched) -> usize
-    requires { (at + 358 ≤ length out.old) × Filled batched }
-    ensures { Put out.old at (printed (batched_of batched) []) out.new result × (result ≤ at + 358) }
+// Appends a batch's reply without its line feed.
+#[tactic(auto, using(protocol::proofs::Laws::Beside::filled_within))]
+pub fn put_batched<const N: usize>(out: &mut ArrayVec<u8, N>, batched: Batched)
+    requires room { array_vec_len out.old + 358 ≤ N }
+    requires filled { Filled batched }
+    ensures text { out.new.items ≡ out.old.items ++ printed (batched_of batched) [] }
+    ensures few { array_vec_len out.new ≤ array_vec_len out.old + 358 }
 {
-    let reply = batched.reply;
-    let count = batched.count;
-    let answers = batched.answers;
-    let end = put_reply(out, at, reply, b"");
-    match reply {
-        Reply::Answers => put_answers(out, end, answers, count),
-        _ => end,
+    put_reply(out, batched.reply, b"");
+    if let Reply::Answers = batched.reply {
+        put_answers(out, &batched.answers[..batched.count]);
     }
 }

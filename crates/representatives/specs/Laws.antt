@@ -1,4 +1,3 @@
 pub mod Reading
 pub mod Firsts
 pub mod Chains
-pub mod All

@@ -1,8 +1,10 @@
 -- Entries of the log by index, and the entries that represent those like them.
-use Rattle.std.specs.Prelude.{ℕ, ◌+◌, ◌*◌, ◌%◌, ◌≤◌, ◌<◌, ◌≡◌, Bool, true, false, cond, List, length, get_or}
+use Rattle.std.specs.Prelude.{ℕ, ◌+◌, ◌*◌, ◌%◌, ◌≤◌, ◌<◌, ◌≡◌, Bool, true, false, cond, List, length, get_or, Option}
+use Rattle.std.specs.Prelude.{None, Some}
 use Rattle.operations.specs.Operations.{kind_of}
 use Rattle.store.specs.Layout.{BookLong}
 use Rattle.store.specs.Layout.{word, entry_start, operation_at, AsStored}
+use Rattle.representatives.specs.declared.Chains.{Chains}
 
 -- ---- Entries by index
 
@@ -95,17 +97,22 @@ Counted true w j = entry_number w j ≡ 11
 abbrev pub InChain : (valued : Bool) → List ℕ → ℕ → ℕ → Type 0
 InChain valued w s j = Counted valued w j × FirstBy valued w j × (slot_at valued w j ≡ s)
 
--- The latest entry of each chain, and at j + 1 the one before entry j in its chain.
-pub record Chained (valued : Bool) (w : List ℕ) (n : ℕ) (heads links : List ℕ) : Type 0 where
-  pub chains : length heads ≡ 256
-  pub entries : length links ≡ 257
-  pub latest : (s : ℕ) → s < 256 → Latest (InChain valued w s) n (get_or heads s 0)
+-- An entry as it is written: its index plus one, or 0 for none.
+abbrev pub written : Option ℕ → ℕ
+written None = 0
+written (Some j) = j + 1
+
+-- The latest entry of each chain, and at j the one before entry j in its chain.
+pub record Chained (valued : Bool) (w : List ℕ) (n : ℕ) {b : ℕ} (chains : Chains b) : Type 0 where
+  pub of_latest : length chains.latest ≡ 256
+  pub of_before : length chains.before ≡ 256
+  pub latest : (s : ℕ) → s < 256 → Latest (InChain valued w s) n (get_or chains.latest s 0)
   pub before : (j : ℕ) → j < n → Counted valued w j → FirstBy valued w j
-      → Latest (InChain valued w (slot_at valued w j)) j (get_or links (j + 1) 0)
+      → Latest (InChain valued w (slot_at valued w j)) j (get_or chains.before j 0)
 
 -- Entry j represents entry i, which is in the chains.
-abbrev pub RepresentedBy : (valued : Bool) → List ℕ → ℕ → ℕ → List ℕ → List ℕ → Type 0
-RepresentedBy valued w i j heads links = RepresentativeBy valued w i j × Chained valued w (i + 1) heads links
+abbrev pub RepresentedBy : (valued : Bool) → List ℕ → ℕ → ℕ → {b : ℕ} → Chains b → Type 0
+RepresentedBy valued w i j chains = RepresentativeBy valued w i j × Chained valued w (i + 1) chains
 
 -- Entry j represents entry i where values count, if that is a modify.
 pub record Twin (w : List ℕ) (i j : ℕ) : Type 0 where
@@ -113,5 +120,5 @@ pub record Twin (w : List ℕ) (i j : ℕ) : Type 0 where
   pub represents : entry_number w i ≡ 11 → RepresentativeBy true w i j
 
 -- It does, and entry i is in the chains.
-abbrev pub TwinBy : List ℕ → ℕ → ℕ → List ℕ → List ℕ → Type 0
-TwinBy w i j heads links = Twin w i j × Chained true w (i + 1) heads links
+abbrev pub TwinBy : List ℕ → ℕ → ℕ → {b : ℕ} → Chains b → Type 0
+TwinBy w i j chains = Twin w i j × Chained true w (i + 1) chains

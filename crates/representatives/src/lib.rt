@@ -2,119 +2,126 @@
 // modifies are looked at, and the first with an object, key and value represents those like it.
 #![tactic(auto)]
 
-ghost use Rattle.std.specs.Prelude.{◌≡◌, true, ◌↔◌, ◌+◌, ◌<◌};
+ghost use Rattle.std.specs.Prelude.{◌≡◌, true, false, ◌↔◌, ◌+◌, ◌<◌, ℕ, List, MatchOption};
 ghost use Rattle.store.specs.Layout.{word, base, decode, Packed};
 ghost use Rattle.store.specs.Soundness.{EntriesLive, EntriesFit};
 ghost use Rattle.representatives.specs.Representatives.{InLog, AlikeBy, FirstBy, RepresentativeBy, Represented};
-ghost use Rattle.representatives.specs.Representatives.{Counted, slot_at, Latest, Chained, RepresentedBy, TwinBy};
+ghost use Rattle.representatives.specs.Representatives.{Counted, slot_at, Chained, RepresentedBy, TwinBy};
+ghost use Rattle.representatives.specs.Representatives.{written};
 
 use layout::ENTRIES;
 
-// A representative is in a chain: `heads` has the latest entry of each chain, `links` at `j + 1` the one before
-// entry `j`. Each is an entry's index plus one, or 0 for none.
-
-pub const CHAINS: usize = 256;
+const CHAINS: usize = 256;
 
 const CHAIN_COUNT: u32 = CHAINS as u32;
 
 // How far apart the chains of two objects begin.
 const STRIDE: u32 = CHAIN_COUNT / layout::OBJECTS as u32;
 
-pub const LINKS: usize = ENTRIES + 1;
-
 // Whether two entries have one object and one key; where values count, one operation with one value too.
-fn alike(book: &[u32], i: usize, j: usize, valued: bool) -> bool
+fn alike<const VALUED: bool>(book: &[u32], i: usize, j: usize) -> bool
     requires { InLog book.now i × InLog book.now j }
-    ensures { (result ≡ true) ↔ AlikeBy valued book.now i j }
+    ensures { (result ≡ true) ↔ AlikeBy VALUED book.now i j }
 {
     if layout::entry_object(book, j) != layout::entry_object(book, i) {
         return false;
     }
     let logged = layout::entry_operation(book, j);
     let requested = layout::entry_operation(book, i);
-    if logged.key != requested.key {
-        return false;
+    if VALUED {
+        logged == requested
+    } else {
+        logged.key == requested.key
     }
-    if !valued {
-        return true;
-    }
-    if logged.number != requested.number {
-        return false;
-    }
-    logged.value == requested.value
 }
 
 // The chain that an entry is put in.
-fn slot(book: &[u32], i: usize, valued: bool) -> usize
+fn slot<const VALUED: bool>(book: &[u32], i: usize) -> usize
     requires { InLog book.now i }
-    ensures { (result ≡ slot_at valued book.now i) × (result < 256) }
+    ensures { (result ≡ slot_at VALUED book.now i) × (result < 256) }
 {
     let operation = layout::entry_operation(book, i);
-    let mut sum = operation.key % CHAIN_COUNT + STRIDE * layout::entry_object(book, i);
-    if valued {
-        sum = sum + operation.value % CHAIN_COUNT;
-    }
-    layout::wide(sum % CHAIN_COUNT)
+    let object = layout::entry_object(book, i);
+    let value = if VALUED { operation.value } else { 0 };
+    ((operation.key % CHAIN_COUNT + STRIDE * object + value % CHAIN_COUNT) % CHAIN_COUNT) as usize
 }
 
-// The earlier entry that represents entry `i`.
-fn find(book: &[u32], i: usize, valued: bool, heads: &[u16; CHAINS], links: &[u16; LINKS]) -> u16
-    requires { InLog book.now i × Counted valued book.now i
-        × Chained valued book.now i heads.now links.now }
-    ensures { Latest (RepresentativeBy valued book.now i) i result }
+// The entry written at a place of a chain: its index plus one, or 0 for none, as an array of options is twice as large.
+pub fn entry(place: u16) -> Option<usize>
+    ensures { written result ≡ place }
 {
-    let mut at = heads[slot(book, i, valued)];
-    while at != 0 {
-        let j = at as usize;
-        if alike(book, i, j - 1, valued) {
-            return at;
+    (place as usize).checked_sub(1)
+}
+
+// The representatives among the entries passed, in chains: `latest` has the last entry of each chain, `before` at `j`
+// the one before entry `j`. What holds of them is about a book, which they do not keep, so that contracts state it.
+#[derive(Drop)]
+pub struct Chains<const VALUED: bool> {
+    latest: [u16; CHAINS],
+    before: [u16; ENTRIES],
+}
+
+impl<const VALUED: bool> Chains<VALUED> {
+    pub fn new() -> Self
+        ensures { (w : List ℕ) → Chained VALUED w 0 result }
+    {
+        Chains {
+            latest: [0; CHAINS],
+            before: [0; ENTRIES],
         }
-        at = links[j];
     }
-    0
-}
 
-// Entry `i`, the first like it, becomes the latest of its chain.
-fn chain(book: &[u32], i: usize, valued: bool, heads: &mut [u16; CHAINS], links: &mut [u16; LINKS])
-    requires { InLog book.now i × Counted valued book.now i × FirstBy valued book.now i
-        × Chained valued book.now i heads.old links.old }
-    ensures { Chained valued book.now (i + 1) heads.new links.new }
-{
-    let at = slot(book, i, valued);
-    links[i + 1] = heads[at];
-    heads[at] = (i + 1) as u16;
-}
-
-// The entry that represents entry `i`: an earlier one, or itself, which is then put in its chain.
-fn represent(
-    book: &[u32],
-    i: usize,
-    valued: bool,
-    heads: &mut [u16; CHAINS],
-    links: &mut [u16; LINKS],
-) -> u16
-    requires { InLog book.now i × Counted valued book.now i
-        × Chained valued book.now i heads.old links.old }
-    ensures { RepresentedBy valued book.now i result heads.new links.new }
-{
-    let at = find(book, i, valued, heads, links);
-    if at == 0 {
-        chain(book, i, valued, heads, links);
-        return i as u16;
+    // The earlier entry that represents entry `i`.
+    fn find(&self, book: &[u32], i: usize) -> Option<usize>
+        requires { InLog book.now i × Counted VALUED book.now i × Chained VALUED book.now i self.now }
+        ensures { MatchOption result (FirstBy VALUED book.now i)
+            (λ j. (j < i) × RepresentativeBy VALUED book.now i j) }
+    {
+        let mut at = self.latest[slot::<VALUED>(book, i)];
+        while let Some(j) = entry(at) {
+            if alike::<VALUED>(book, i, j) {
+                return Some(j);
+            }
+            at = self.before[j];
+        }
+        None
     }
-    at - 1
+
+    // Entry `i`, the first like it, becomes the latest of its chain.
+    fn add(&mut self, book: &[u32], i: usize)
+        requires { InLog book.now i × Counted VALUED book.now i × FirstBy VALUED book.now i
+            × Chained VALUED book.now i self.old }
+        ensures { Chained VALUED book.now (i + 1) self.new }
+    {
+        let at = slot::<VALUED>(book, i);
+        self.before[i] = self.latest[at];
+        self.latest[at] = (i + 1) as u16;
+    }
+
+    // The entry that represents entry `i`: an earlier one, or itself, which is then put in its chain.
+    fn represent(&mut self, book: &[u32], i: usize) -> usize
+        requires { InLog book.now i × Counted VALUED book.now i × Chained VALUED book.now i self.old }
+        ensures { RepresentedBy VALUED book.now i result self.new }
+    {
+        match self.find(book, i) {
+            Some(j) => j,
+            None => {
+                self.add(book, i);
+                i
+            }
+        }
+    }
 }
 
 // Where entry `i` is a modify, the entry that represents it where values count.
-pub fn twin(book: &[u32], i: usize, heads: &mut [u16; CHAINS], links: &mut [u16; LINKS]) -> usize
-    requires { InLog book.now i × Chained true book.now i heads.old links.old }
-    ensures { TwinBy book.now i result heads.new links.new }
+pub fn twin(book: &[u32], i: usize, chains: &mut Chains<true>) -> usize
+    requires { InLog book.now i × Chained true book.now i chains.old }
+    ensures { TwinBy book.now i result chains.new }
 {
-    let operation = layout::entry_operation(book, i);
-    if operation.number != operations::MODIFY {
+    if layout::entry_operation(book, i).number != operations::MODIFY {
         return i;
     }
-    represent(book, i, true, heads, links) as usize
+    chains.represent(book, i)
 }
 
 // The representative of each entry by object and key.
@@ -124,13 +131,14 @@ pub fn all(book: &[u32]) -> [u16; ENTRIES]
 {
     let count = layout::entry_count(book);
     let mut found = [0u16; ENTRIES];
+    // An empty log needs no chains.
     if count == 0 {
         return found;
     }
-    let mut heads = [0u16; CHAINS];
-    let mut links = [0u16; LINKS];
+    let mut chains = Chains::<false>::new();
+    // By index, which is what an entry is known by.
     for i in 0..count {
-        found[i] = represent(book, i, false, &mut heads, &mut links);
+        found[i] = chains.represent(book, i) as u16;
     }
     found
 }

@@ -1,5 +1,5 @@
 -- A desk that was switched off, or killed, opens where it stood: it serves the calls of its journal again.
-use Rattle.std.specs.Prelude.{ℕ, ◌≡◌, refl, true, ◌⊎◌, List, [], ◌++◌, drop}
+use Rattle.std.specs.Prelude.{ℕ, ◌≡◌, refl, true, ◌⊎◌, List, [], ◌++◌, drop, Result, Ok, Err}
 use Rattle.std.proofs.Common.{sym, ap, ◌∙◌, subst, inl, inr, ⊎_elim, append-nil}
 use Rattle.operations.specs.Operations.{All}
 use Rattle.operations.proofs.Laws.Cases.{all_parts}
@@ -15,8 +15,8 @@ use Rattle.resuming.specs.Resuming.{Replayed, Ended}
 use Rattle.resuming.specs.Laws.Chains.{behind, replayed, Beginning, beginning}
 use Rattle.resuming.specs.Laws.Parts.{replayed_grown}
 use Rattle.resuming.specs.Laws.Once.{Stops, end_stops, bad_stops, found_so, found_end, found_cut}
-use Rattle.resuming.specs.declared.Resumed.{Resumed}
-use Rattle.resuming.specs.declared.Resumed.TheVariants.{End, Bad}
+use Rattle.resuming.specs.declared.Stop.{Stop}
+use Rattle.resuming.specs.declared.Stop.TheVariants.{Damaged}
 
 -- Switched off: from the book that calls were first served on, their journal leads back to the book that they left.
 -- Each record is confirmed on the way, whatever list its call was lent, and what stands behind the last is left.
@@ -52,8 +52,8 @@ resumes_cut calls w front more fit e =
 
 -- What `replay` finds. On a whole journal: the end, and the book that the calls left.
 pub opens : (calls : List Call) (w : List ℕ) → All (λ (r : Record). fits r ≡ true) (journal w calls)
-    → (at : ℕ) (book : List ℕ) (found : Resumed) → Ended w (file (journal w calls)) at book found
-    → (found ≡ End) × (book ≡ book_after desk calls w)
+    → (at : ℕ) (book : List ℕ) (found : Result (Unit {0}) Stop) → Ended w (file (journal w calls)) at book found
+    → (found ≡ Ok tt) × (book ≡ book_after desk calls w)
 opens calls w fit at book found so =
     let all : Replayed w (file (journal w calls)) (book_after desk calls w) [] =
     subst (λ (bytes : List ℕ). Replayed w bytes (book_after desk calls w) []) (append-nil (file (journal w calls)))
@@ -65,10 +65,10 @@ opens calls w fit at book found so =
 -- record that differs. The book is the one that the calls of the whole records left.
 pub opens_cut : (calls : List Call) (w front more : List ℕ) → All (λ (r : Record). fits r ≡ true) (journal w calls)
     → file (journal w calls) ≡ front ++ more
-    → (at : ℕ) (book : List ℕ) (found : Resumed) → Ended w front at book found
+    → (at : ℕ) (book : List ℕ) (found : Result (Unit {0}) Stop) → Ended w front at book found
     → (done : List Call) × (left : List Call) × (done ++ left ≡ calls) × (book ≡ book_after desk done w)
     × (front ≡ file (journal w done) ++ drop at front)
-    × ((found ≡ End) ⊎ ((place : ℕ) × (found ≡ Bad Cut place)))
+    × ((found ≡ Ok tt) ⊎ ((place : ℕ) × (found ≡ Err (Damaged (record { cause = Cut; place = place })))))
 opens_cut calls w front more fit e at book found so =
     let (done, left, part, both, before, all, told) = resumes_cut calls w front more fit e in
     let stops : Stops part =

@@ -19,8 +19,8 @@ fn write_empty(book: &mut [u32], kinds: &[u8])
     ensures { book.new ≡ encode base (calls.empty kinds.now) }
 {
     layout::clear(book);
-    for object in 0..layout::OBJECTS {
-        book[layout::object_start(object)] = kinds[object] as u32;
+    for (object, kind) in kinds.iter().enumerate() {
+        book[layout::object_start(object)] = u32::from(*kind);
     }
 }
 
@@ -28,8 +28,7 @@ pub fn set_up(book: &mut [u32], kinds: &[u8]) -> Reply
     ensures { served book.new (outcome (reply_of result) [] [])
         ≡ calls.set_up base book.old kinds.now }
 {
-    let reason = refusals::set_up(book, kinds);
-    if reason != protocol::ACCEPTED {
+    if let Err(reason) = refusals::set_up(book, kinds) {
         return Reply::Refused(reason);
     }
     write_empty(book, kinds);
@@ -40,8 +39,7 @@ pub fn begin(book: &mut [u32], transaction: u32) -> Reply
     ensures { served book.new (outcome (reply_of result) [] [])
         ≡ calls.begin base whether_sound book.old transaction }
 {
-    let reason = refusals::begin(book, transaction);
-    if reason != protocol::ACCEPTED {
+    if let Err(reason) = refusals::begin(book, transaction) {
         return Reply::Refused(reason);
     }
     statuses::set_status(book, transaction, statuses::ACTIVE);
@@ -59,8 +57,7 @@ pub fn operate(
     ensures { served book.new (outcome (reply_of result) [] [])
         ≡ calls.operate base whether_sound book.old transaction object operation key value }
 {
-    let reason = refusals::operate(book, transaction, object, operation);
-    if reason != protocol::ACCEPTED {
+    if let Err(reason) = refusals::operate(book, transaction, object, operation) {
         return Reply::Refused(reason);
     }
     let requested = waits::request(operation, key, value);
@@ -89,8 +86,7 @@ pub fn batch(book: &mut [u32], transaction: u32, operations: &[u32]) -> Batched
         ≡ calls.batch base whether_sound book.old transaction operations.now }
     ensures filled { Filled result }
 {
-    let reason = refusals::batch(book, transaction, operations);
-    if reason != protocol::ACCEPTED {
+    if let Err(reason) = refusals::batch(book, transaction, operations) {
         return unanswered(Reply::Refused(reason));
     }
     let owners = batches::owners(book, transaction, operations);
@@ -104,17 +100,17 @@ pub fn batch(book: &mut [u32], transaction: u32, operations: &[u32]) -> Batched
     }
 }
 
-// The object's rows, two words each: that part of the book itself, empty where refused.
+// The object's rows, two words each: that part of the book itself, empty where refused. The paper names the form.
 pub fn contents(book: &[u32], object: u32) -> &[u32]
     ensures handed { result.now ≡ (calls.contents base whether_sound book.now object).outcome.rows }
     ensures part { (n : ℕ)
         → (calls.contents base whether_sound book.now object).outcome.reply ≡ counted n
         → result.now ≡ take (2 * n) (drop (rows_start object) book.now) }
 {
-    if refusals::contents(book, object) != protocol::ACCEPTED {
+    if refusals::contents(book, object).is_err() {
         return &book[0..0];
     }
-    let at = layout::wide(object);
+    let at = object as usize;
     let start = layout::rows_start(at);
     let end = start + layout::ROW * layout::row_count(book, at);
     &book[start..end]
@@ -124,9 +120,8 @@ pub fn contents(book: &[u32], object: u32) -> &[u32]
 pub fn contents_count(book: &[u32], object: u32) -> Reply
     ensures { reply_of result ≡ (calls.contents base whether_sound book.now object).outcome.reply }
 {
-    let reason = refusals::contents(book, object);
-    if reason != protocol::ACCEPTED {
+    if let Err(reason) = refusals::contents(book, object) {
         return Reply::Refused(reason);
     }
-    Reply::Counted(layout::row_count(book, layout::wide(object)) as u32)
+    Reply::Counted(layout::row_count(book, object as usize) as u32)
 }

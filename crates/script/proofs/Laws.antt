@@ -1,7 +1,6 @@
 pub mod Reading
 pub mod Lines
 pub mod Issuing
-pub mod Closing
 pub mod Traces
 pub mod Taking
 pub mod Running

@@ -8,11 +8,11 @@ use Rattle.operations.specs.Operations.{All}
 use Rattle.journal.specs.Records.{file, fits}
 use Rattle.journal.specs.Journal.{journal}
 use Rattle.dispatch.specs.Served.{LineServed}
-use Rattle.dispatch.specs.declared.Ends.{Ends}
 use Rattle.script.specs.Script.{lines_in, ended_lines, served_lines, texts, records, as_lines, printed_from}
 use Rattle.script.specs.Script.{recorded_from, calls_in}
 use Rattle.script.specs.Sessions.{Session, Turn, opening, taken, closing, in_blocks}
 use Rattle.script.specs.Feeding.{Turned, Fed}
+use Rattle.script.specs.declared.Ends.{Ends}
 use Rattle.script.proofs.Laws.Reading.{all_lines, last_left, closed_lines, blocks_taken}
 use Rattle.script.proofs.Laws.Running.{fed_taken, issued_behind}
 use Rattle.script.proofs.Laws.Lines.{replies_read, length_replies, records_journal}

@@ -1,14 +1,26 @@
 -- What the functions of the code leave.
-use Rattle.std.specs.Prelude.{ℕ, ◌+◌, ◌-◌, ◌≤◌, ◌<◌, ◌≡◌, true, ◌⊎◌, List, [], ◌∷◌, ◌++◌, length, take, drop}
+use Rattle.std.specs.Prelude.{ℕ, ◌+◌, ◌-◌, ◌≤◌, ◌≡◌, true, ◌⊎◌, List, [], ◌∷◌, ◌++◌, length, take, drop}
+use Prim.Native.Char.{code}
 use Rattle.text.specs.Fields.{Put}
 use Rattle.operations.specs.Operations.{All}
 use Rattle.journal.specs.Records.{file, fits}
 use Rattle.dispatch.specs.Served.{LineServed}
 use Rattle.dispatch.specs.Replying.{most_printed, most_recorded}
-use Rattle.dispatch.specs.declared.Ends.{Ends}
+use Rattle.script.specs.declared.Ends.{Ends}
 use Rattle.script.specs.Script.{texts, records, as_lines}
 use Rattle.script.specs.Sessions.{line_kept, Session, session, Turn, taken}
 use Rattle.script.specs.declared.Progress.{Progress}
+
+-- A line was served: its reply put at a place of a buffer, with a line feed, and its record, which fits, at a place of
+-- another.
+pub record LinePut (a : LineServed) (book out : List ℕ) (at : ℕ) (printed journal : List ℕ) (behind : ℕ)
+    (recorded : List ℕ) (ends : Ends) : Type 0 where
+  pub left : book ≡ a.book
+  pub put : Put out at (a.text ++ (code "\n" ∷ [])) printed ends.written
+  pub few : ends.written ≤ at + most_printed
+  pub kept : Put journal behind (file a.records) recorded ends.recorded
+  pub fit : All (λ r. fits r ≡ true) a.records
+  pub short : ends.recorded ≤ behind + most_recorded
 
 -- Lines were served: their replies put at a place of a buffer, and their records, which fit, at a place of another.
 pub record Issued (served : List LineServed) (out : List ℕ) (at : ℕ) (printed : List ℕ) (end : ℕ) (journal : List ℕ)

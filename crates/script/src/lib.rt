@@ -3,11 +3,10 @@
 #![tactic(auto)]
 
 ghost use Rattle.std.specs.Prelude.{◌≡◌, true, ◌↔◌, ◌+◌, ◌≤◌, ◌<◌, length, take};
+ghost use Rattle.dispatch.specs.Served.{line_served};
 ghost use Rattle.dispatch.specs.Replying.{most_printed, most_recorded};
 ghost use Rattle.script.specs.Sessions.{session, closing};
-ghost use Rattle.script.specs.Feeding.{Turned, KeptIn, Buffers, Kept, Room, Took, begun, Stopped};
-
-use dispatch::Ends;
+ghost use Rattle.script.specs.Feeding.{LinePut, Turned, KeptIn, Buffers, Kept, Room, Took, begun, Stopped};
 
 // The bytes that are kept of a line, 717: one more than the longest call has, `G` with a transaction and the operations
 // of a batch, each number a space and the most digits.
@@ -24,16 +23,36 @@ pub struct Progress {
     pub recorded: usize,
 }
 
+// Where replies end that are to be printed, and records.
+#[derive(Clone, Copy)]
+pub struct Ends {
+    pub written: usize,
+    pub recorded: usize,
+}
+
 // Keeps bytes of a line, as long as it may be a call.
 fn keep(line: &mut [u8], kept: usize, part: &[u8]) -> usize
     requires { KeptIn line.old kept }
     ensures { Kept (take kept line.old) part.now line.new result }
 {
-    let room = LINE - kept;
-    if part.len() < room {
-        return text::put(line, kept, part);
-    }
-    text::put(line, kept, &part[..room])
+    let count = part.len().min(LINE - kept);
+    text::put(line, kept, &part[..count])
+}
+
+// Serves a line. Its reply and its record go behind those that end there.
+fn serve_line(book: &mut [u32], line: &[u8], out: &mut [u8], journal: &mut [u8], from: Ends) -> Ends
+    requires { (from.written + most_printed ≤ length out.old)
+        × (from.recorded + most_recorded ≤ length journal.old) }
+    ensures { LinePut (line_served book.old line.now) book.new
+        out.old from.written out.new journal.old from.recorded journal.new result }
+{
+    let output = dispatch::reply_line(book, line);
+    let written = text::put(out, from.written, &output.reply);
+    let recorded = match &output.record {
+        Some(bytes) => text::put(journal, from.recorded, bytes),
+        None => from.recorded,
+    };
+    Ends { written, recorded }
 }
 
 // Takes a block's bytes up to the end of a line, or of the block.
@@ -52,20 +71,20 @@ fn take_line(
         journal.new result
         × (from.at < result.at) }
 {
-    let at = from.at;
-    let written = from.written;
-    let recorded = from.recorded;
-    let end = text::find(block, at, block.len(), LINE_FEED);
-    let kept = keep(line, from.kept, &block[at..end]);
+    let end = text::find(block, from.at, block.len(), LINE_FEED);
+    let kept = keep(line, from.kept, &block[from.at..end]);
     if end == block.len() {
         return Progress {
             at: end,
             kept,
-            written,
-            recorded,
+            ..from
         };
     }
-    let ends = dispatch::reply_line(book, &line[..kept], out, written, journal, recorded);
+    let begun = Ends {
+        written: from.written,
+        recorded: from.recorded,
+    };
+    let ends = serve_line(book, &line[..kept], out, journal, begun);
     Progress {
         at: end + 1,
         kept: 0,
@@ -80,16 +99,13 @@ fn goes_on(progress: Progress, bytes: usize, room: usize, left: usize) -> bool
     ensures { (result ≡ true) ↔ ((progress.at < bytes) × (progress.written + most_printed ≤ room)
         × (progress.recorded + most_recorded ≤ left)) }
 {
-    if bytes <= progress.at {
-        return false;
-    }
-    if room - progress.written < replies::MOST {
-        return false;
-    }
-    journal::MOST <= left - progress.recorded
+    progress.at < bytes
+        && replies::MOST <= room - progress.written
+        && journal::MOST <= left - progress.recorded
 }
 
-// Takes bytes of a script. Replies go to the front of `out`, records to that of `journal`.
+// Takes bytes of a script. Replies go to the front of `out`, records to that of `journal`. The buffers are the
+// caller's, who keeps them from call to call, and so is the line with how many bytes of it are kept.
 pub fn feed(
     book: &mut [u32],
     line: &mut [u8],
@@ -123,11 +139,12 @@ pub fn end_input(book: &mut [u32], line: &[u8], out: &mut [u8], journal: &mut [u
         out.old out.new journal.old journal.new result
         × (result.written ≤ most_printed) × (result.recorded ≤ most_recorded) }
 {
-    if line.len() == 0 {
-        return Ends {
-            written: 0,
-            recorded: 0,
-        };
+    let begun = Ends {
+        written: 0,
+        recorded: 0,
+    };
+    if line.is_empty() {
+        return begun;
     }
-    dispatch::reply_line(book, line, out, 0, journal, 0)
+    serve_line(book, line, out, journal, begun)
 }

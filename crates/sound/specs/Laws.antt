@@ -1,32 +1,13 @@
 -- Laws for the functions of `sound`.
-use Rattle.std.specs.Prelude.{ℕ, ◌≡◌, refl, Bool, true, false, ◌↔◌, List}
-use Rattle.std.proofs.Common.{sym, true≢false, le_refl}
+use Rattle.std.specs.Prelude.{ℕ, ◌↔◌, List}
+use Rattle.std.proofs.Common.{le_refl}
 use Rattle.bitset.specs.Bitset.{Holds, Represents, In}
-use Rattle.operations.proofs.Laws.Cases.{no, denied}
-use Rattle.store.specs.Layout.{BookLong}
 use Rattle.store.specs.Store.{Store, Live, PseudoCommitted}
 use Rattle.store.specs.Dependency.{DependsOn, Way}
-use Rattle.sound.specs.Examined.{Bounded}
 use Rattle.store.specs.Soundness.{EntriesLive, Acyclic, Dependent}
 use Rattle.store.proofs.Laws.Dependencies.{depended_on}
 use Rattle.store.proofs.Laws.Ways.{way_monotone}
 use Rattle.graph.specs.Edges.{EdgeIn}
-
--- A clause that fails refuses the whole.
-pub refused : {b : Bool} {P Q : Type 0} → (b ≡ true) ↔ P → b ≡ false → (Q → P) → (false ≡ true) ↔ Q
-refused decided fails part = no refl (λ q. denied decided fails (part q))
-
--- So does one of an examined book, and nothing is then said of the sets.
-pub unsound : {b : Bool} {P Q R : Type 0} → (b ≡ true) ↔ P → b ≡ false → (Q → P)
-    → ((false ≡ true) ↔ Q) × (false ≡ true → R)
-unsound decided fails part = (refused decided fails part, λ e. absurd (true≢false (sym e)))
-
-pub of_another_length : (w : List ℕ) → (BookLong w → ⊥) → (false ≡ true) ↔ Bounded w
-of_another_length w other = no refl (λ (b : Bounded w). other b.words)
-
--- Where all but the last clause hold, the last decides.
-pub last : {b : Bool} {P Q : Type 0} → (b ≡ true) ↔ P → (P → Q) → (Q → P) → (b ≡ true) ↔ Q
-last decided whole part = (λ e. whole (decided.0 e), λ q. decided.1 (part q))
 
 -- What the sets of dependency say is said of the store.
 module _ (s : Store) (sets : List ℕ) (finished : ℕ) (edges : Represents sets (DependsOn s.log))

@@ -1,7 +1,7 @@
 // Whether a book is sound. Every call but set up asks this first.
 #![tactic(auto)]
 
-ghost use Rattle.std.specs.Prelude.{◌≡◌, true, ◌↔◌, replicate};
+ghost use Rattle.std.specs.Prelude.{◌≡◌, true, ◌↔◌, ℕ, replicate, IsSome};
 ghost use Rattle.store.specs.Store.{transaction_count};
 ghost use Rattle.store.specs.Layout.{base};
 ghost use Rattle.store.specs.Soundness.{Sound};
@@ -13,59 +13,32 @@ use layout::TRANSACTIONS;
 fn bounded(book: &[u32]) -> bool
     ensures { (result ≡ true) ↔ Bounded book.now }
 {
-    if book.len() != layout::WORDS {
-        return false;
-    }
-    if !objects::packed(book) {
-        return false;
-    }
-    entry_log::bounded(book)
+    book.len() == layout::WORDS && objects::packed(book) && entry_log::bounded(book)
 }
 
-// Whether a book is sound; of a sound one, who is pseudo-committed.
-#[derive(Drop)]
-pub struct Examination {
-    pub sound: bool,
-    pub finished: u64,
-}
-
-// The sets, empty before, become those of a sound book's dependencies.
-pub fn examined(book: &[u32], edges: &mut [u64; TRANSACTIONS]) -> Examination
+// Of a sound book, who is pseudo-committed; of another, None. The sets, empty before, become those of a sound book's
+// dependencies.
+pub fn examined(book: &[u32], edges: &mut [u64; TRANSACTIONS]) -> Option<u64>
     requires { edges.old ≡ replicate transaction_count 0 }
-    ensures { ((result.sound ≡ true) ↔ Sound base book.now)
-        × (result.sound ≡ true → Examined book.now result.finished edges.new) }
+    ensures sound { IsSome result ↔ Sound base book.now }
+    ensures found { (finished : ℕ) → result ≡ Some finished → Examined book.now finished edges.new }
 {
-    let unsound = Examination {
-        sound: false,
-        finished: 0,
-    };
-    if !bounded(book) {
-        return unsound;
-    }
-    if !objects::formed(book) {
-        return unsound;
+    if !bounded(book) || !objects::formed(book) {
+        return None;
     }
     let summary = statuses::statuses(book);
-    if !summary.ranked {
-        return unsound;
-    }
-    if !entry_log::fits(book, summary.live) {
-        return unsound;
+    if !summary.ranked || !entry_log::fits(book, summary.live) {
+        return None;
     }
     let representatives = representatives::all(book);
-    if !states::answered(book, &representatives) {
-        return unsound;
+    if !states::answered(book, &representatives)
+        || !dependencies::conflicts(book, &representatives, edges)
+        || !graph::acyclic(edges, summary.finished)
+        || !graph::dependent(edges, summary.finished)
+    {
+        return None;
     }
-    if !dependencies::conflicts(book, &representatives, edges) {
-        return unsound;
-    }
-    if !graph::acyclic(edges, summary.finished) {
-        return unsound;
-    }
-    Examination {
-        sound: graph::dependent(edges, summary.finished),
-        finished: summary.finished,
-    }
+    Some(summary.finished)
 }
 
 // Whether the words are a sound book, whatever their number and contents.
@@ -73,5 +46,5 @@ pub fn sound(book: &[u32]) -> bool
     ensures { (result ≡ true) ↔ Sound base book.now }
 {
     let mut edges = [0u64; TRANSACTIONS];
-    examined(book, &mut edges).sound
+    examined(book, &mut edges).is_some()
 }

@@ -1,5 +1,4 @@
 pub mod Cells
-pub mod Words
 pub mod Seeking
 pub mod Stacks
 pub mod Serving

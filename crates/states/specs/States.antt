@@ -1,15 +1,17 @@
 -- The log's entries served in order: the rows that replay would hold, and what the code's arrays say of them.
-use Rattle.std.specs.Prelude.{ℕ, ◌+◌, ◌-◌, ◌*◌, ◌≤◌, ◌<◌, ◌≡◌, ◌↔◌, Bool, true, false, cond, ◌||◌, List, [], ◌∷◌, eqb}
-use Rattle.std.specs.Prelude.{length, get_or, take}
-use Rattle.std.proofs.Math.Option.{Option, some}
+use Rattle.std.specs.Prelude.{ℕ, ◌+◌, ◌-◌, ◌≤◌, ◌<◌, ◌≡◌, ◌↔◌, Bool, true, false, cond, ◌||◌, List, [], ◌∷◌, eqb}
+use Rattle.std.specs.Prelude.{Option, None, length, get_or, set, take}
+use Rattle.std.proofs.Math.Option.{Option as Maybe, some}
 use Rattle.operations.specs.Operations.{Kind, Stack, Set, Table, Row, Answer, answering, valued, push, kind_of}
 use Rattle.operations.specs.Operations.{stack_next}
 use Rattle.operations.specs.Operations.{next, answer, found, top_item, Ascending}
+use Rattle.operations.specs.Stored.{found_of}
 use Rattle.operations.specs.Log.{Answered}
 use Rattle.store.specs.Store.{object_of}
 use Rattle.store.specs.Layout.{word, decode, operation_at, object_start, rows_at, Packed, base}
 use Rattle.store.specs.Soundness.{EntriesFit, RowsFormed}
 use Rattle.representatives.specs.Representatives.{entry_object, entry_key, First, Representative}
+use Rattle.states.specs.declared.State.{State}
 use Rattle.store.proofs.Laws.Entries.{entries_from}
 
 -- ---- An operation on a key, by its number
@@ -35,7 +37,7 @@ keyed_answer number held count =
 
 -- ---- Entries and objects
 
-abbrev pub kind_at : List ℕ → ℕ → Option Kind
+abbrev pub kind_at : List ℕ → ℕ → Maybe Kind
 kind_at w o = (object_of (decode base w) o).kind
 
 -- Entry i is of a set or a table.
@@ -79,29 +81,30 @@ pub record Stacked (w : List ℕ) (i : ℕ) (first rows : List Row) (top : ℕ) 
 
 -- ---- The state
 
--- The answer in cell j.
-abbrev pub cell_in : List ℕ → ℕ → Answer
-cell_in cells j = answering (get_or cells (2 * j) 0) (get_or cells (2 * j + 1) 0)
+-- What lookup of the key in cell j answers.
+abbrev pub cell_in : List (Option ℕ) → ℕ → Answer
+cell_in cells j = valued (found_of (get_or cells j None))
 
-pub record Sized (cells counts tops below : List ℕ) : Type 0 where
-  pub of_cells : length cells ≡ 512
-  pub of_counts : length counts ≡ 16
-  pub of_tops : length tops ≡ 16
-  pub of_below : length below ≡ 256
+pub record Sized (state : State) : Type 0 where
+  pub of_cells : length state.cells ≡ 256
+  pub of_counts : length state.counts ≡ 16
+  pub of_tops : length state.tops ≡ 16
+  pub of_below : length state.below ≡ 256
 
 -- The entries below i are served. The code does not hold `rows`, which is what replay would hold.
-pub record Serving (w : List ℕ) (i : ℕ) (cells counts tops below : List ℕ) : Type 0 where
-  pub sized : Sized cells counts tops below
+pub record Serving (w : List ℕ) (i : ℕ) (state : State) : Type 0 where
+  pub sized : Sized state
   pub rows : ℕ → List Row
   pub ordered : (o : ℕ) (kind : Kind) → kind_at w o ≡ some kind → Ordered kind (rows o)
   pub few : (o : ℕ) → o < 16 → length (rows o) ≤ 64 + i
-  pub counted : (o : ℕ) → o < 16 → get_or counts o 0 ≡ length (rows o)
-  -- the cell of an entry that represents others: what lookup of its key would answer
+  pub counted : (o : ℕ) → o < 16 → get_or state.counts o 0 ≡ length (rows o)
+  -- the cell of an entry that represents others: the value at its key
   pub cell : (j : ℕ) → j < i → First w j → Keyed w j
-      → cell_in cells j ≡ valued (found (entry_key w j) (rows (entry_object w j)))
+      → cell_in state.cells j ≡ valued (found (entry_key w j) (rows (entry_object w j)))
   -- a key that no entry has had yet is as in the book
   pub fresh : (o k : ℕ) → Untouched w i o k → (kind_at w o ≡ some Stack → ⊥) → found k (rows o) ≡ found k (rows_at w o)
-  pub stack : (o : ℕ) → o < 16 → kind_at w o ≡ some Stack → Stacked w i (rows_at w o) (rows o) (get_or tops o 0) below
+  pub stack : (o : ℕ) → o < 16 → kind_at w o ≡ some Stack
+      → Stacked w i (rows_at w o) (rows o) (get_or state.tops o 0) state.below
   -- what is left to serve, from these rows, is right exactly where the whole is
   pub left : AllAnswered w i rows ↔ AllAnswered w 0 (rows_at w)
 
@@ -123,40 +126,28 @@ pub record EntryOn (w : List ℕ) (i o : ℕ) : Type 0 where
 abbrev pub Judged : List ℕ → Type 0 → Bool → Type 0
 Judged w After r = (r ≡ true → After) × (r ≡ false → AllAnswered w 0 (rows_at w) → ⊥)
 
--- An entry of a set or a table, represented by entry p. It has nothing to do with stacks, so any will do.
-pub record KeyedEntry (w : List ℕ) (i o p : ℕ) (cells counts : List ℕ) : Type 0 where
+-- An entry of a set or a table, represented by entry p.
+pub record KeyedEntry (w : List ℕ) (i o p : ℕ) (state : State) : Type 0 where
   pub entry : EntryOn w i o
   pub keyed : Keyed w i
   pub represents : Representative w i p
-  pub tops : List ℕ
-  pub below : List ℕ
-  pub state : Serving w i cells counts tops below
+  pub served : Serving w i state
 
-abbrev pub KeyedServed : List ℕ → ℕ → List ℕ → List ℕ → List ℕ → List ℕ → Bool → Type 0
-KeyedServed w i cells counts cells' counts' r =
-    (tops below : List ℕ) → Serving w i cells counts tops below
-    → Judged w (Serving w (i + 1) cells' counts' tops below) r
-
--- An entry of a stack. It has nothing to do with cells.
-pub record StackEntry (w : List ℕ) (i o : ℕ) (counts tops below : List ℕ) : Type 0 where
+-- An entry of a stack.
+pub record StackEntry (w : List ℕ) (i o : ℕ) (state : State) : Type 0 where
   pub entry : EntryOn w i o
   pub of_stack : kind_of (operation_at w i) ≡ Stack
-  pub cells : List ℕ
-  pub state : Serving w i cells counts tops below
-
-abbrev pub StackServed : List ℕ → ℕ → List ℕ → List ℕ → List ℕ → List ℕ → List ℕ → List ℕ → Bool → Type 0
-StackServed w i counts tops below counts' tops' below' r =
-    (cells : List ℕ) → Serving w i cells counts tops below → Judged w (Serving w (i + 1) cells counts' tops' below') r
+  pub served : Serving w i state
 
 -- Any entry.
-pub record ToServe (w : List ℕ) (i o p : ℕ) (cells counts tops below : List ℕ) : Type 0 where
+pub record ToServe (w : List ℕ) (i o p : ℕ) (state : State) : Type 0 where
   pub entry : EntryOn w i o
   pub represents : Representative w i p
-  pub state : Serving w i cells counts tops below
+  pub served : Serving w i state
 
--- What is said of any entry.
-abbrev pub AfterEntry : List ℕ → ℕ → List ℕ → List ℕ → List ℕ → List ℕ → Bool → Type 0
-AfterEntry w i cells counts tops below r = Judged w (Serving w (i + 1) cells counts tops below) r
+-- What is said of an entry that was served.
+abbrev pub AfterEntry : List ℕ → ℕ → State → Bool → Type 0
+AfterEntry w i state r = Judged w (Serving w (i + 1) state) r
 
 -- An object whose rows in the book ascend.
 pub record Seekable (w : List ℕ) (o : ℕ) : Type 0 where
@@ -164,15 +155,45 @@ pub record Seekable (w : List ℕ) (o : ℕ) : Type 0 where
   pub within : o < 16
   pub ascending : Ascending (rows_at w o)
 
--- What lookup of a key would answer: where no earlier entry has the key the rows decide, else the cell.
-abbrev pub HeldBy : List ℕ → ℕ → ℕ → ℕ → Bool → List ℕ → Answer → Type 0
-HeldBy w o key p met cells r = (met ≡ true → r ≡ valued (found key (rows_at w o))) × (met ≡ false → r ≡ cell_in cells p)
+-- The value at the key of entry i: where no earlier entry has the key the rows decide, else the cell.
+abbrev pub HeldBy : List ℕ → ℕ → ℕ → ℕ → ℕ → List (Option ℕ) → Option ℕ → Type 0
+HeldBy w i o key p cells r =
+    (p ≡ i → valued (found_of r) ≡ valued (found key (rows_at w o)))
+    × ((p ≡ i → ⊥) → valued (found_of r) ≡ cell_in cells p)
 
--- What top would answer.
-abbrev pub TopBy : List ℕ → ℕ → ℕ → ℕ → Answer → Type 0
-TopBy w o count top r =
-    (i : ℕ) (rows : List Row) (below : List ℕ) → Stacked w i (rows_at w o) rows top below → length rows ≡ count
-    → r ≡ valued (top_item rows)
+-- A stack whose count and top can be read and written.
+pub record StackAt (o : ℕ) (state : State) : Type 0 where
+  pub within : o < 16
+  pub sized : Sized state
+  pub count : get_or state.counts o 0 ≤ 320
+  pub top : get_or state.tops o 0 ≤ 256
+
+-- The item on top of a stack.
+abbrev pub TopBy : List ℕ → ℕ → State → Option ℕ → Type 0
+TopBy w o state r =
+    (i : ℕ) (rows : List Row) → Stacked w i (rows_at w o) rows (get_or state.tops o 0) state.below
+    → length rows ≡ get_or state.counts o 0 → valued (found_of r) ≡ valued (top_item rows)
+
+-- Entry i pushes an item.
+abbrev pub pushed : State → ℕ → ℕ → State
+pushed state i o =
+    record {
+      cells = state.cells;
+      counts = set state.counts o (get_or state.counts o 0 + 1);
+      tops = set state.tops o (i + 1);
+      below = set state.below i (get_or state.tops o 0);
+    }
+
+-- The item on top goes: the top is what it was before that item's push, or a row of the book.
+abbrev pub popped : State → ℕ → State
+popped state o =
+    let top = get_or state.tops o 0 in
+    record {
+      cells = state.cells;
+      counts = set state.counts o (get_or state.counts o 0 - 1);
+      tops = cond (eqb top 0) state.tops (set state.tops o (get_or state.below (top - 1) 0));
+      below = state.below;
+    }
 
 -- The number of rows of each object below n.
 pub record RowCounts (w : List ℕ) (n : ℕ) (counts : List ℕ) : Type 0 where

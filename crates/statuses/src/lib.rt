@@ -1,17 +1,18 @@
 // The statuses of transactions: words 1 to 64 of the book.
 #![tactic(auto)]
 
-ghost use Rattle.std.specs.Prelude.{◌≡◌, true, ◌&&◌, ◌||◌, ◌↔◌, ◌+◌, ◌<◌, eqb};
-ghost use Rattle.bitset.specs.Bitset.{has, Members, Holds};
+ghost use Rattle.std.specs.Prelude.{◌≡◌, true, ◌&&◌, ◌||◌, ◌↔◌, ◌+◌, ◌<◌};
+ghost use Rattle.bitset.specs.Bitset.{Holds};
 ghost use Rattle.store.specs.Layout.{BookLong, Packed, base, decode, encode, read_status, word};
 ghost use Rattle.store.specs.Store.{transaction_count, Live, PseudoCommitted, pseudo_committed_count};
 ghost use Rattle.store.specs.Soundness.{OnceEach, WithoutGaps};
 ghost use Rattle.store.specs.Steps.{with_status, closed_up};
-ghost use Rattle.statuses.specs.Statuses.{Noted, Downward, lowered_word};
+ghost use Rattle.statuses.specs.Statuses.{Joined, Downward, lowered_word};
 
 use bitset::{contains, join, single};
 
-// The words of a status: absent, active, and from this on pseudo-committed, with the rank added.
+// The words of a status: absent, active, and from this on pseudo-committed, with the rank added. Numbers, as the
+// contract of `status_word` has them.
 pub const ABSENT: u32 = 0;
 
 pub const ACTIVE: u32 = 1;
@@ -21,7 +22,8 @@ pub const FIRST_RANK: u32 = 2;
 // How many transactions there are, and so ranks.
 const COUNT: u32 = layout::TRANSACTIONS as u32;
 
-// Who is live, who is pseudo-committed, and whether ranks are 0, 1, 2 and on, once each.
+// Who is live, who is pseudo-committed, and whether ranks are 0, 1, 2 and on, once each. A flag beside the sets and no
+// Option, since the sets are promised where ranks are not in order, too.
 #[derive(Drop)]
 pub struct Summary {
     pub live: u64,
@@ -29,61 +31,28 @@ pub struct Summary {
     pub ranked: bool,
 }
 
-// The ranks seen so far, and whether each was below 64 and seen once.
-#[derive(Drop)]
-struct Ranks {
-    seen: u64,
-    once: bool,
-}
-
 pub fn status_word(book: &[u32], transaction: u32) -> u32
     requires { BookLong book.now × (transaction < transaction_count) }
     ensures { result ≡ word book.now (1 + transaction) }
 {
-    let at = transaction as usize;
-    book[layout::FIRST_STATUS + at]
+    book[layout::FIRST_STATUS + transaction as usize]
 }
 
-// The set, with the transaction where the test holds.
-fn marked(set: u64, transaction: u32, test: bool) -> u64
-    requires { transaction < transaction_count }
-    ensures { Members result (λ h. has set h || (test && eqb h transaction)) }
+// The ranks seen, with one more; none where it is too large or was seen before.
+fn with_rank(seen: u64, rank: u32) -> Option<u64>
+    ensures { Joined seen rank result }
 {
-    if test {
-        return join(set, single(transaction));
+    if rank >= COUNT || contains(seen, rank) {
+        return None;
     }
-    set
+    Some(join(seen, single(rank)))
 }
 
-// The ranks seen, with that of one more status.
-fn noted(ranks: Ranks, status: u32) -> Ranks
-    ensures { Noted (read_status status) ranks result }
+// Whether with each rank but 0 the one below it was seen.
+fn in_order(seen: u64) -> bool
+    ensures { (result ≡ true) ↔ Downward seen }
 {
-    if status < FIRST_RANK {
-        return ranks;
-    }
-    let rank = status - FIRST_RANK;
-    if rank >= COUNT || contains(ranks.seen, rank) {
-        return Ranks {
-            seen: ranks.seen,
-            once: false,
-        };
-    }
-    Ranks {
-        seen: join(ranks.seen, single(rank)),
-        once: ranks.once,
-    }
-}
-
-// Whether each rank was seen once, and with each but 0 the one below it.
-fn in_order(ranks: Ranks) -> bool
-    ensures { (result ≡ true) ↔ ((ranks.once ≡ true) × Downward ranks.seen) }
-{
-    let seen = ranks.seen;
-    if ranks.once {
-        return join(seen, seen >> 1) == seen;
-    }
-    false
+    join(seen, seen >> 1) == seen
 }
 
 pub fn statuses(book: &[u32]) -> Summary
@@ -93,26 +62,25 @@ pub fn statuses(book: &[u32]) -> Summary
         × ((result.ranked ≡ true)
         ↔ (OnceEach (decode base book.now) × WithoutGaps (decode base book.now))) }
 {
-    let mut live: u64 = 0;
-    let mut finished: u64 = 0;
-    let mut ranks = Ranks {
-        seen: 0,
-        once: true,
-    };
-    let mut transaction: u32 = 0;
-    while transaction < COUNT {
-        let status = status_word(book, transaction);
-        if status != ABSENT {
-            live = join(live, single(transaction));
-            finished = marked(finished, transaction, status > ACTIVE);
-            ranks = noted(ranks, status);
+    let mut live = 0;
+    let mut finished = 0;
+    // The ranks seen, as long as each was new.
+    let mut ranks = Some(0);
+    let words = &book[layout::FIRST_STATUS..layout::FIRST_OBJECT];
+    for (transaction, status) in words.iter().enumerate() {
+        let own = single(transaction as u32);
+        if *status != ABSENT {
+            live = join(live, own);
         }
-        transaction += 1;
+        if *status > ACTIVE {
+            finished = join(finished, own);
+            ranks = ranks.and_then(|seen| with_rank(seen, *status - FIRST_RANK));
+        }
     }
     Summary {
-        live: live,
-        finished: finished,
-        ranked: in_order(ranks),
+        live,
+        finished,
+        ranked: ranks.is_some_and(|seen| in_order(seen)),
     }
 }
 
@@ -121,15 +89,8 @@ pub fn next_rank(book: &[u32]) -> u32
     requires { BookLong book.now }
     ensures { result ≡ pseudo_committed_count (decode base book.now) }
 {
-    let mut count: u32 = 0;
-    let mut transaction: u32 = 0;
-    while transaction < COUNT {
-        if status_word(book, transaction) > ACTIVE {
-            count += 1;
-        }
-        transaction += 1;
-    }
-    count
+    let words = &book[layout::FIRST_STATUS..layout::FIRST_OBJECT];
+    words.iter().filter(|status| **status > ACTIVE).count() as u32
 }
 
 pub fn set_status(book: &mut [u32], transaction: u32, status: u32)
@@ -137,8 +98,7 @@ pub fn set_status(book: &mut [u32], transaction: u32, status: u32)
     ensures { book.new
         ≡ encode base (with_status transaction (read_status status) (decode base book.old)) }
 {
-    let at = transaction as usize;
-    book[layout::FIRST_STATUS + at] = status;
+    book[layout::FIRST_STATUS + transaction as usize] = status;
 }
 
 // A status once rank `out` is taken out.
@@ -156,9 +116,7 @@ pub fn close_ranks(book: &mut [u32], out: u32)
     requires { Packed base book.old }
     ensures { book.new ≡ encode base (closed_up out (decode base book.old)) }
 {
-    let mut t: usize = 0;
-    while t < layout::TRANSACTIONS {
-        book[layout::FIRST_STATUS + t] = lowered(book[layout::FIRST_STATUS + t], out);
-        t += 1;
+    for status in &mut book[layout::FIRST_STATUS..layout::FIRST_OBJECT] {
+        *status = lowered(*status, out);
     }
 }

@@ -4,6 +4,4 @@ pub mod Putting
 pub mod Splitting
 pub mod Tests
 pub mod Lines
-pub mod ReadBack
-pub mod Shortest
 pub mod Finding

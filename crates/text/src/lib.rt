@@ -1,54 +1,41 @@
-// Numbers in decimal, as bytes: read from a field, and put into a buffer.
+// Numbers in decimal, as bytes: read from a field, and appended to a text.
 #![tactic(auto)]
 
-ghost use Rattle.std.specs.Prelude.{◌≡◌, ◌+◌, ◌≤◌, length};
+ghost use Rattle.std.specs.Prelude.{◌≡◌, ◌+◌, ◌≤◌, ◌==◌, ◌++◌, length};
+ghost use Rattle.std.specs.List.{position};
+ghost use Rattle.arrayvec.specs.ArrayVec.{array_vec_len};
 ghost use Rattle.text.specs.Text.{number_in, decimal};
 ghost use Rattle.text.specs.Fields.{number_said, Put};
 ghost use Rattle.text.specs.Finding.{index_of, slice};
 
-// What a field says.
-#[derive(Drop)]
-pub enum Number {
-    Is(u32),
-    Not,
-}
+use arrayvec::ArrayVec;
+use itoa::Buffer;
 
 // Digits of a number, leading zeros among them.
 pub const MOST_DIGITS: usize = 10;
 
-// The largest number.
-const LARGEST: u64 = u32::MAX as u64;
-
-pub fn read_number(field: &[u8]) -> Number
+// The number that a field says: one to ten digits that fit 32 bits.
+pub fn read_number(field: &[u8]) -> Option<u32>
     ensures { number_said result ≡ number_in field.now }
 {
-    if field.len() == 0 {
-        return Number::Not;
+    if field.is_empty() || MOST_DIGITS < field.len() {
+        return None;
     }
-    if MOST_DIGITS < field.len() {
-        return Number::Not;
-    }
-    let mut value: u64 = 0;
-    for i in 0..field.len() {
-        let byte = field[i];
-        if byte < b'0' {
-            return Number::Not;
+    let mut value: u32 = 0;
+    for byte in field {
+        if !byte.is_ascii_digit() {
+            return None;
         }
-        if b'9' < byte {
-            return Number::Not;
-        }
-        value = 10 * value + wide(byte - b'0');
+        value = value.checked_mul(10)?.checked_add(u32::from(byte - b'0'))?;
     }
-    if LARGEST < value {
-        return Number::Not;
-    }
-    Number::Is(value as u32)
+    Some(value)
 }
 
-fn wide(x: u8) -> u64
-    ensures { result ≡ x }
+// The place of the first separator.
+fn first(text: &[u8], separator: u8) -> Option<usize>
+    ensures { result ≡ position (λ b. b == separator) text.now }
 {
-    x as u64
+    text.iter().position(|byte| *byte == separator)
 }
 
 // The place of the first separator in the part of a text from one place to another, or the part's end.
@@ -56,12 +43,7 @@ pub fn find(text: &[u8], from: usize, to: usize, separator: u8) -> usize
     requires { (from ≤ to) × (to ≤ length text.now) }
     ensures { (result ≡ from + index_of separator (slice from to text.now)) × (result ≤ to) }
 {
-    for at in from..to {
-        if text[at] == separator {
-            return at;
-        }
-    }
-    to
+    from + first(&text[from..to], separator).unwrap_or(to - from)
 }
 
 // Puts a text at a place of a buffer; the place behind it.
@@ -74,17 +56,12 @@ pub fn put(out: &mut [u8], at: usize, text: &[u8]) -> usize
     end
 }
 
-// Puts a number's digits, as few as say it.
-pub fn put_decimal(out: &mut [u8], at: usize, number: u32) -> usize
-    requires { at + length (decimal number) ≤ length out.old }
-    ensures { Put out.old at (decimal number) out.new result }
+// Appends a number's digits, as few as say it.
+#[tactic(auto, using(crate::proofs::Laws::Decimals::decimal_printed))]
+pub fn put_decimal<const N: usize>(out: &mut ArrayVec<u8, N>, number: u32)
+    requires { array_vec_len out.old + length (decimal number) ≤ N }
+    ensures { out.new.items ≡ out.old.items ++ decimal number }
 {
-    let digit = b'0' + (number % 10) as u8;
-    if number < 10 {
-        out[at] = digit;
-        return at + 1;
-    }
-    let end = put_decimal(out, at, number / 10);
-    out[end] = digit;
-    end + 1
+    let mut buffer = Buffer::new();
+    let _ = out.try_extend_from_slice(buffer.format(number).as_bytes());
 }

@@ -10,40 +10,29 @@ ghost use Rattle.entry_log.specs.Log.{StoredAs};
 ghost use Rattle.protocol.specs.Calls.{request as Request, owners as Owners};
 ghost use Rattle.waits.specs.Waits.{Asked};
 
-use operations::Operation;
+use operations::{Kind, Operation};
 
 // The key reduced, and arguments that the operation doesn't use 0.
 pub fn request(number: u32, key: u32, value: u32) -> Operation
     requires { Numbered number }
     ensures { StoredAs result (Request base number key value) }
 {
-    let stored = match number {
-        operations::PUSH => key,
-        operations::POP | operations::TOP | operations::SIZE => 0,
-        _ => key % layout::KEYS,
+    let (key, value) = match number {
+        operations::PUSH => (key, 0),
+        operations::POP | operations::TOP | operations::SIZE => (0, 0),
+        operations::TABLE_INSERT | operations::MODIFY => (key % layout::KEYS, value),
+        _ => (key % layout::KEYS, 0),
     };
-    match number {
-        operations::TABLE_INSERT | operations::MODIFY => Operation {
-            number: number,
-            key: stored,
-            value: value,
-        },
-        _ => Operation {
-            number: number,
-            key: stored,
-            value: 0,
-        },
-    }
+    Operation { number, key, value }
 }
 
 // The set of those that force the request to wait: every other transaction with an entry on the object that the request
-// isn't recoverable against.
+// isn't recoverable against. The paper names the form: a loop left by its label, with a match of kind and key in it.
 pub fn owners(book: &[u32], transaction: u32, object: u32, requested: Operation) -> u64
     requires { Asked book.now object requested }
     ensures { (o : model.Operation) → StoredAs requested o
         → result ≡ Owners transaction o (on_object object (decode base book.now).log) }
 {
-    let kind = layout::object_kind(book, layout::wide(object));
     let entries = layout::entry_count(book);
     let mut set: u64 = 0;
     let mut i: usize = 0;
@@ -58,10 +47,11 @@ pub fn owners(book: &[u32], transaction: u32, object: u32, requested: Operation)
         if owner == transaction || on != object {
             continue 'scan;
         }
-        let rule = match kind {
-            operations::STACK => pairs::stack_recoverable(requested.number, logged.number),
-            operations::SET => pairs::set_recoverable(requested.number, logged.number),
-            _ => pairs::table_recoverable(requested.number, logged.number),
+        let rule = match Kind::of(requested.number) {
+            Kind::Stack => pairs::stack_recoverable(requested.number, logged.number),
+            Kind::Set => pairs::set_recoverable(requested.number, logged.number),
+            Kind::Table => pairs::table_recoverable(requested.number, logged.number),
+            Kind::None => unreachable!(),
         };
         match rule {
             pairs::ALWAYS => continue 'scan,

@@ -1,6 +1,9 @@
 -- The rows that an object uses, counted entry by entry.
-use Rattle.std.specs.Prelude.{ℕ, ◌+◌, ◌≤◌, ◌<◌, ◌≡◌, cond, List, length}
-use Rattle.std.proofs.Common.{sym, ap, ◌∙◌, arith}
+use Rattle.std.specs.Prelude.{ℕ, zero, suc, Bool, true, false, ◌&&◌, eqb, ◌+◌, ◌≤◌, ◌<◌, ◌≡◌, cond, List, ◌∷◌, length}
+use Rattle.std.proofs.Common.{sym, ap, ap₂, ◌∙◌, arith, eq-eqb, ne_eqb}
+use Rattle.std.specs.List.{count_by, filter, range_with_len}
+use Rattle.std.proofs.lemmas.List.Sums.{length-filter}
+use Rattle.operations.proofs.Laws.Cases.{same}
 use Rattle.operations.specs.declared.Operation.{Operation}
 use Rattle.operations.specs.Operations.{adds}
 use Rattle.store.specs.Store.{object_of}
@@ -8,8 +11,8 @@ use Rattle.store.specs.Layout.{word, decode, entry_start, operation_at, entry_at
 use Rattle.store.specs.Layout.{base}
 use Rattle.store.proofs.Laws.Entries.{entries_from, entries_own, entries_other, entries_end}
 use Rattle.store.proofs.Laws.Capacity.{additions_first}
-use Rattle.answers.specs.Answers.{rows_needed}
-use Rattle.answers.specs.Laws.Entries.{EntryOperation, needs_rows, needed_few}
+use Rattle.answers.specs.Answers.{rows_needed, may_add}
+use Rattle.answers.specs.Laws.Entries.{EntryOperation, needed, one_of, needs_rows, needed_few}
 use Rattle.answers.specs.Laws.Whole.{row_count, rows_read}
 
 -- Counted up to entry i: with what the entries from there on may need, it is all that the object uses.
@@ -61,3 +64,43 @@ module _ {w : List ℕ} {i : ℕ} {operation : Operation} (at : EntryOperation w
 pub count_end : (w : List ℕ) (o i : ℕ) → word w 0 ≤ i → (used : ℕ) → Counting w o i used
     → used ≡ base.used (decode base w) o
 count_end w o i l used s = omega (arith, ap additions (entries_end w i o l), s.left)
+
+one_more : (b : Bool) (i : ℕ) (l : List ℕ) {n : ℕ} → length l ≡ n → length (cond b (i ∷ l) l) ≡ cond b (suc n) n
+one_more true i l e = ap suc e
+one_more false i l e = e
+
+-- Those that need a row, counted one by one.
+module _ (w : List ℕ) (packed : Packed base w) (o : ℕ) where
+  needs_one : (i : ℕ) → i < word w 0
+      → eqb (rows_needed (word w (entry_start i + 2))) 1 ≡ adds (operation_at w i)
+  needs_one i l =
+      ap (λ (n : ℕ). eqb n 1) (ap rows_needed (sym (packed.log.as_stored i l).0) ∙ needed (operation_at w i))
+      ∙ one_of (adds (operation_at w i))
+
+  abbrev own : ℕ → Bool
+  own i = eqb (word w (entry_start i + 1)) o
+
+  abbrev needs : ℕ → Bool
+  needs i = eqb (rows_needed (word w (entry_start i + 2))) 1
+
+  abbrev picked : ℕ → ℕ → List ℕ
+  picked i n = filter (λ j. may_add w o j) (range_with_len i n)
+
+  additions_from : (n i : ℕ) → i + n ≡ word w 0 → length (picked i n) ≡ additions (entries_from w o i)
+  additions_from zero i e = ap additions (sym (entries_end w i o (omega arith)))
+  additions_from (suc n) i e =
+      let l : i < word w 0 = omega arith in
+      let rest = additions_from n (i + 1) (omega arith) in
+      same (word w (entry_start i + 1)) o
+      (λ (h : word w (entry_start i + 1) ≡ o).
+      ap₂ (λ (a b : Bool). length (cond (a && b) (i ∷ picked (i + 1) n) (picked (i + 1) n))) (eq-eqb _ _ h)
+      (needs_one i l)
+      ∙ one_more (adds (operation_at w i)) i (picked (i + 1) n) rest ∙ sym (ap additions (entries_own w i o l h)))
+      (λ (h : word w (entry_start i + 1) ≡ o → ⊥).
+      ap (λ (a : Bool). length (cond (a && needs i) (i ∷ picked (i + 1) n) (picked (i + 1) n))) (ne_eqb _ _ h)
+      ∙ rest ∙ sym (ap additions (entries_other w i o l h)))
+
+  pub additions_counted : (n : ℕ) → n ≡ word w 0
+      → count_by (λ j. may_add w o j) (range_with_len 0 n) ≡ additions (entries_from w o 0)
+  additions_counted n e =
+      sym (length-filter (λ j. may_add w o j) (range_with_len 0 n)) ∙ additions_from n 0 (omega arith)

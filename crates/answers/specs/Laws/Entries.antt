@@ -2,7 +2,6 @@
 use Rattle.std.specs.Prelude.{ℕ, ◌+◌, ◌≤◌, ◌<◌, ◌≡◌, refl, ◌⊎◌, Bool, true, false, ◌||◌}
 use Rattle.std.proofs.Math.Path.{sym, ap}
 use Rattle.std.proofs.Common.{◌∙◌, inl, inr, ne_eqb, eqb-true, ltb-true, ltb-false}
-use Rattle.std.proofs.Math.Logic.{⊎_elim}
 use Rattle.std.proofs.Math.Bool.{cond}
 use Rattle.std.proofs.Math.Option.{Option, none, some}
 use mathlib.Core.List.{List, ◌∷◌, map}
@@ -18,7 +17,7 @@ use Rattle.store.specs.Layout.{word, entry_start, operation_at, Packed, base}
 use Rattle.store.proofs.Laws.Reading.{entry_named}
 use Rattle.answers.specs.Answers.{rows_for, rows_needed}
 
-needed : (o : model.Operation) → rows_needed (model.number_of o) ≡ cond (model.adds o) 1 0
+pub needed : (o : model.Operation) → rows_needed (model.number_of o) ≡ cond (model.adds o) 1 0
 unfolding rows_needed
 needed (model.on_stack (model.push x)) = refl
 needed (model.on_stack model.pop) = refl
@@ -32,12 +31,17 @@ needed (model.on_table (model.lookup k)) = refl
 needed (model.on_table model.size) = refl
 needed (model.on_table (model.modify k v)) = refl
 
+-- What was read of an entry's operation.
+abbrev pub OperationRead : List ℕ → ℕ → Operation → Type 0
+OperationRead w i operation =
+    (operation.number ≡ word w (entry_start i + 2)) × (operation.key ≡ word w (entry_start i + 3))
+    × (operation.value ≡ word w (entry_start i + 4))
+
 -- Entry i of the log, and the operation that was read there.
 pub record EntryOperation (w : List ℕ) (i : ℕ) (operation : Operation) : Type 0 where
   pub packed : Packed base w
   pub inside : i < word w 0
-  pub words : (operation.number ≡ word w (entry_start i + 2)) × (operation.key ≡ word w (entry_start i + 3))
-      × (operation.value ≡ word w (entry_start i + 4))
+  pub words : OperationRead w i operation
 
 module _ {w : List ℕ} {i : ℕ} {operation : Operation} (at : EntryOperation w i operation) where
   pub named : operation_of operation ≡ some (operation_at w i)
@@ -46,6 +50,10 @@ module _ {w : List ℕ} {i : ℕ} {operation : Operation} (at : EntryOperation w
   pub needs_rows : (n : ℕ) → n ≡ rows_needed operation.number → n ≡ cond (model.adds (operation_at w i)) 1 0
   needs_rows n e =
       e ∙ ap rows_needed (at.words.0 ∙ sym (at.packed.log.as_stored i at.inside).0) ∙ needed (operation_at w i)
+
+pub one_of : (b : Bool) → eqb (cond b 1 0) 1 ≡ b
+one_of true = refl
+one_of false = refl
 
 pub at_most_one : (b : Bool) → cond b 1 0 ≤ 1
 at_most_one true = omega arith
@@ -73,10 +81,6 @@ module _ (number : ℕ) where
         ne_eqb number 4 (λ e. n (inr (inl e))),
         ne_eqb number 7 (λ e. n (inr (inr e))),
       )
-
-  pub needed_one : Adding number → 1 ≡ rows_needed number
-  unfolding rows_needed
-  needed_one = ⊎_elim (λ e. rw e) (⊎_elim (λ e. rw e) (λ e. rw e))
 
   pub needed_none : (Adding number → ⊥) → 0 ≡ rows_needed number
   unfolding rows_needed

@@ -1,8 +1,7 @@
 -- For a request: the rows that replay of an object's entries reaches, as far as they matter to it.
-use Rattle.std.specs.Prelude.{ℕ, ◌+◌, ◌≤◌, ◌<◌, ◌≡◌, refl, Bool, true, false, not, List, ◌∷◌, length}
+use Rattle.std.specs.Prelude.{ℕ, ◌+◌, ◌≤◌, ◌<◌, ◌≡◌, refl, true, List, ◌∷◌, length}
 use Rattle.std.proofs.Common.{sym, ap, ap₂, ◌∙◌, arith}
 use Rattle.std.proofs.Math.Option.{some}
-use Rattle.std.proofs.lemmas.Bool.{not-false}
 use Rattle.operations.specs.Operations as model
 use Rattle.operations.specs.declared.Operation.{Operation}
 use Rattle.operations.specs.Stored.{operation_of}
@@ -104,11 +103,10 @@ module _ {w : List ℕ} {i : ℕ} {operation : Operation} (at : EntryOperation w
           )
 
       -- One that the request is recoverable against is left out.
-      pub carry_out : (test : Bool) → test ≡ pair_of recoverable asked operation → not test ≡ false
-          → Replaying w o requested (i + 1) rows count
-      carry_out test tested recovers =
+      pub carry_out : pair_of recoverable asked operation ≡ true → Replaying w o requested (i + 1) rows count
+      carry_out recovers =
           let held : recoverable requested (operation_at w i) ≡ true =
-          sym (tested ∙ ap₂ (both recoverable) request.named (named at)) ∙ not-false test recovers in
+          sym (ap₂ (both recoverable) request.named (named at)) ∙ recovers in
           record {
             within = omega (arith, at.inside);
             room = omega (arith, s.room, counted_here at o own);
@@ -143,9 +141,6 @@ module _ {w : List ℕ} {i : ℕ} {operation : Operation} (at : EntryOperation w
 module _ (w : List ℕ) (o i : ℕ) (l : word w 0 ≤ i) where
   module _ (requested : model.Operation) (rows : List (List ℕ)) (count : ℕ)
       (s : Replaying w o requested i rows count) where
-    pub carry_counted : count ≤ 64
-    carry_counted = omega (arith, s.room)
-
     pub carry_end : (asked : Operation) → operation_of asked ≡ some requested
         → answer_named asked (rows_of rows count) ≡ answer_named asked (after model.next (entries_from w o 0)
         (rows_at w o))

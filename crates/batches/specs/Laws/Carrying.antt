@@ -32,20 +32,15 @@ use Rattle.protocol.proofs.Laws.Waiting.{none_owned}
 use Rattle.protocol.proofs.Laws.Commits.{after_append}
 use Rattle.protocol.proofs.Laws.Ending.{entries_fit, after_grows, additions_parted}
 use Rattle.protocol.proofs.Laws.Reasons.{request_reduced}
-use Rattle.batches.specs.Batches.{OwnEntry, Carried}
+use Rattle.batches.specs.declared.OwnRows.{OwnRows}
+use Rattle.batches.specs.Batches.{OwnEntry, Carried, Advanced, rows_in}
 
 abbrev Entries : Type 0
 Entries = List (Entry Operation Answer)
 
--- It is said of equal numbers.
-pub carried_same : (s : Store) (t o : ℕ) (rows copy : List (List ℕ)) (count many : ℕ) → copy ≡ rows → many ≡ count
-    → Carried s t o rows count → Carried s t o copy many
-carried_same s t o rows copy count many e f c =
-    subst (λ (x : List (List ℕ)). Carried s t o x many) (sym e) (subst (λ (n : ℕ). Carried s t o rows n) (sym f) c)
-
-pub carried_of : (s : Store) (t o p : ℕ) (rows : List (List ℕ)) (count : ℕ) → p ≡ o → Carried s t o rows count
-    → Carried s t p rows count
-carried_of s t o p rows count e = subst (λ (n : ℕ). Carried s t n rows count) (sym e)
+-- A copy is of its own object.
+pub of_its_own : {s : Store} {t o : ℕ} {copy : OwnRows} → Carried s t o copy → Carried s t copy.object copy
+of_its_own {s} {t} {o} {copy} c = subst (λ (n : ℕ). Carried s t n copy) (sym c.object) c
 
 -- ---- Own entries, one after the other
 
@@ -65,55 +60,57 @@ module _ (w : List ℕ) (t o : ℕ) where
       (λ apart. ap (only (one t)) (entries_other w i o l apart))
 
   -- Replayed up to entry i: after the own entries from there on the rows are those after all, and there is room.
-  pub record OwnReplaying (i : ℕ) (rows : List (List ℕ)) (count : ℕ) : Type 0 where
+  pub record OwnReplaying (i : ℕ) (copy : OwnRows) : Type 0 where
+    pub object : copy.object ≡ o
     pub within : i ≤ word w 0
-    pub room : count + additions (own_from i) ≤ 64
-    pub left : after next (own_from i) (rows_of rows count) ≡ after next (own_from 0) (rows_at w o)
+    pub room : copy.count + additions (own_from i) ≤ 64
+    pub left : after next (own_from i) (rows_in copy) ≡ after next (own_from 0) (rows_at w o)
 
-  pub own_start : Packed base w → o < 16 → Room base (decode base w) → (rows : List (List ℕ)) (count : ℕ)
-      → count ≡ word w (object_start o + 1) → rows_of rows (word w (object_start o + 1)) ≡ rows_at w o
-      → OwnReplaying 0 rows count
-  own_start packed l room rows count e holds =
+  pub own_start : Packed base w → o < 16 → Room base (decode base w) → (copy : OwnRows) → copy.object ≡ o
+      → copy.count ≡ word w (object_start o + 1) → rows_of copy.rows (word w (object_start o + 1)) ≡ rows_at w o
+      → OwnReplaying 0 copy
+  own_start packed l room copy on e holds =
       record {
+        object = on;
         within = omega arith;
-        room = omega (arith, all_rows w packed o l count e, room o, additions_parted (one t) (entries_from w o 0));
-        left = ap (after next (own_from 0)) (ap (rows_of rows) e ∙ holds);
+        room = omega (arith, all_rows w packed o l copy.count e, room o, additions_parted (one t) (entries_from w o 0));
+        left = ap (after next (own_from 0)) (ap (rows_of copy.rows) e ∙ holds);
       }
 
-  module _ (i : ℕ) (rows : List (List ℕ)) (count : ℕ) (s : OwnReplaying i rows count) where
-    pub own_counted : count ≤ 64
+  module _ (i : ℕ) (copy : OwnRows) (s : OwnReplaying i copy) where
+    pub own_counted : copy.count ≤ 64
     own_counted = omega (arith, s.room)
 
-    pub own_passed : i < word w 0 → (OwnEntry w i t o → ⊥) → OwnReplaying (i + 1) rows count
+    pub own_passed : i < word w 0 → (OwnEntry w i t o → ⊥) → OwnReplaying (i + 1) copy
     own_passed l other =
         let e = own_past i l other in
-        record { within = omega arith; room = rw (← e) s.room; left = rw (← e) s.left }
+        record { object = s.object; within = omega arith; room = rw (← e) s.room; left = rw (← e) s.left }
 
     module _ {operation : words.Operation} (at : EntryOperation w i operation) (own : OwnEntry w i t o) where
       counted : additions (own_from i) ≡ cond (adds (operation_at w i)) 1 0 + additions (own_from (i + 1))
       counted = ap additions (own_here i at.inside own) ∙ additions_first (entry_at w i).entry (own_from (i + 1))
 
-      pub own_room : length (next_named operation (rows_of rows count)) ≤ 64
-      own_room = omega (arith, s.room, counted, next_grows at rows count)
+      pub own_room : length (next_named operation (rows_in copy)) ≤ 64
+      own_room = omega (arith, s.room, counted, next_grows at copy.rows copy.count)
 
-      pub own_replayed : (copy : List (List ℕ)) (many : ℕ)
-          → rows_of copy many ≡ next_named operation (rows_of rows count)
-          → many ≡ length (next_named operation (rows_of rows count)) → OwnReplaying (i + 1) copy many
-      own_replayed copy many holds sized =
+      pub own_replayed : (later : OwnRows) → Advanced copy operation later → OwnReplaying (i + 1) later
+      own_replayed later on =
           record {
+            object = on.0 ∙ s.object;
             within = omega (arith, at.inside);
-            room = omega (arith, sized, s.room, counted, next_grows at rows count);
+            room = omega (arith, on.2, s.room, counted, next_grows at copy.rows copy.count);
             left =
-                ap (after next (own_from (i + 1))) (holds ∙ next_named_lem at (rows_of rows count))
-                ∙ ap (λ (l : Entries). after next l (rows_of rows count)) (sym (own_here i at.inside own)) ∙ s.left;
+                ap (after next (own_from (i + 1))) (on.1 ∙ next_named_lem at (rows_in copy))
+                ∙ ap (λ (l : Entries). after next l (rows_in copy)) (sym (own_here i at.inside own)) ∙ s.left;
           }
 
-    pub own_reached : o < 16 → word w 0 ≤ i → Carried (decode base w) t o rows count
+    pub own_reached : o < 16 → word w 0 ≤ i → Carried (decode base w) t o copy
     own_reached l past =
         record {
+          object = s.object;
           few = own_counted;
           reached =
-              ap (λ (x : Entries). after next (only (one t) x) (rows_of rows count)) (sym (entries_end w i o past))
+              ap (λ (x : Entries). after next (only (one t) x) (rows_in copy)) (sym (entries_end w i o past))
               ∙ s.left ∙ ap (after next (own_from 0)) (sym (rows_read w o l));
         }
 
@@ -148,7 +145,7 @@ only_append t (e ∷ l) m =
 
 module _ (s : Store) (t : ℕ) (q : LentOperation) (sound : SoundStore base s) (a : OperationAccepted base s q)
     (operation : words.Operation) (stored : StoredAs operation (requested base q))
-    (rows : List (List ℕ)) (count : ℕ) (c : Carried s t q.object rows count) where
+    (copy : OwnRows) (c : Carried s t q.object copy) where
   abbrev asked : Operation
   asked = requested base q
 
@@ -159,23 +156,23 @@ module _ (s : Store) (t : ℕ) (q : LentOperation) (sound : SoundStore base s) (
   abbrev counting : Bool → ℕ
   counting b = cond b 1 0
 
-  pub carried_answer : barring t s q ≡ 0 → answer_named operation (rows_of rows count) ≡ answer_to asked s q.object
+  pub carried_answer : barring t s q ≡ 0 → answer_named operation (rows_in copy) ≡ answer_to asked s q.object
   carried_answer free =
       let u = sound.unsettled in
-      ap (λ x. answer_by x (rows_of rows count)) (named operation asked stored) ∙ ap (answer asked) c.reached
+      ap (λ x. answer_by x (rows_in copy)) (named operation asked stored) ∙ ap (answer asked) c.reached
       ∙ sym (others_left_out t asked (request_reduced q.number q.key q.value) logged
       (object_of s q.object).rows
       (entries_fit s q.object (kind_of asked) a.kind s.log u.fits u.reduced)
       (u.rows q.object (kind_of asked) a.kind) ((none_owned t asked logged).0 free))
 
-  named_next : next_named operation (rows_of rows count) ≡ next asked (rows_of rows count)
-  named_next = ap (λ x. next_by x (rows_of rows count)) (named operation asked stored)
+  named_next : next_named operation (rows_in copy) ≡ next asked (rows_in copy)
+  named_next = ap (λ x. next_by x (rows_in copy)) (named operation asked stored)
 
-  pub carried_room : length (next_named operation (rows_of rows count)) ≤ 64
+  pub carried_room : length (next_named operation (rows_in copy)) ≤ 64
   carried_room =
       let grown = after_grows reduce_key Stack (only (one t) logged) (object_of s q.object).rows in
       let before = ap length c.reached in
-      let one_more = grows asked (rows_of rows count) in
+      let one_more = grows asked (rows_in copy) in
       let part = additions_parted (one t) logged in
       let whole = sound.unsettled.room q.object in
       split (adds asked)
@@ -184,9 +181,8 @@ module _ (s : Store) (t : ℕ) (q : LentOperation) (sound : SoundStore base s) (
       (λ (e : adds asked ≡ false).
       omega (arith, ap length named_next, one_more, before, grown, part, whole, ap counting e))
 
-  pub carried_next : (copy : List (List ℕ)) (many : ℕ) → rows_of copy many ≡ next_named operation (rows_of rows count)
-      → many ≡ length (next_named operation (rows_of rows count)) → Carried (run base t q s) t q.object copy many
-  carried_next copy many holds sized =
+  pub carried_next : (later : OwnRows) → Advanced copy operation later → Carried (run base t q s) t q.object later
+  carried_next later on =
       let x : Entry Operation Answer = record {
         transaction = t;
         operation = asked;
@@ -201,9 +197,10 @@ module _ (s : Store) (t : ℕ) (q : LentOperation) (sound : SoundStore base s) (
       ∙ only_append t logged (x ∷ []) ∙ ap (λ (l : Entries). only (one t) logged ++ l) own in
       let rs = (object_of s q.object).rows in
       record {
-        few = omega (arith, sized, carried_room);
+        object = on.0 ∙ c.object;
+        few = omega (arith, on.2, carried_room);
         reached =
-            holds ∙ named_next ∙ ap (next asked) c.reached
+            on.1 ∙ named_next ∙ ap (next asked) c.reached
             ∙ sym (after_append (object reduce_key Stack) (only (one t) logged) (x ∷ []) rs)
             ∙ ap (λ (l : Entries). after next l rs) (sym all);
       }

@@ -10,8 +10,11 @@ use Rattle.pairs.specs.Pairs.{first_of, column_of, width_of}
 use Rattle.store.specs.Layout.{word, operation_at}
 use Rattle.representatives.specs.Representatives.{entry_transaction, entry_object, entry_number, Readable}
 use Rattle.representatives.specs.Representatives.{Representative}
-use Rattle.dependencies.specs.Dependencies.{Bars, Barred, key_column, Picked, PickedBoth, EntryRead, OwnersRow}
-use Rattle.dependencies.specs.Dependencies.{ObjectRow, KeyRow, Gathered, Others}
+use Rattle.dependencies.specs.declared.Blockers.{Blockers}
+use Rattle.dependencies.specs.declared.Entry.{Entry}
+use Rattle.dependencies.specs.declared.Rows.{Rows}
+use Rattle.dependencies.specs.Dependencies.{Bars, Barred, WithoutBoth, key_column, Picked, PickedBoth, EntryRead}
+use Rattle.dependencies.specs.Dependencies.{OwnersRow, ObjectRow, KeyRow, Gathered, Others}
 use Rattle.dependencies.specs.Laws.Numbers.{ranged, picked_of, picked_from}
 use Rattle.dependencies.specs.Laws.Columns.{Told, recoverable_told, commuting_told, apart_shared, equal_pushes}
 use Rattle.dependencies.specs.Laws.Columns.{agreeing_modifies, column_other}
@@ -167,20 +170,19 @@ module _ (w : List ℕ) (readable : Readable w) where
         (holds_without Columns s (entry_transaction w i) u h without)
         (λ b. (picked_bars b, bars_picked b))
 
-  pub barred : (i : ℕ) → i < word w 0 → (whole same : List (List ℕ)) (alike : List ℕ) → Gathered w i whole same alike
-      → (t o number p others u v u' v' : ℕ) → EntryRead w i t o number → Representative w i p → Others w i others
-      → PickedBoth number (get_or whole o []) (get_or same p []) others u v
-      → Members u' (λ b. has u b && not (eqb b t)) → Members v' (λ b. has v b && not (eqb b t)) → Barred w i u' v'
-  barred i l whole same alike g t o number p others u v u' v' read by other-owners chosen without-u without-v =
-      let barring = bars i l (get_or whole (entry_object w i) []) (get_or same p []) others
+  pub barred : (i : ℕ) → i < word w 0 → (rows : Rows) → Gathered w i rows → (entry : Entry) (p others : ℕ)
+      (found left : Blockers) → EntryRead w i entry → Representative w i p → Others w i others
+      → PickedBoth entry.number (get_or rows.objects entry.object []) (get_or rows.keys p []) others found
+      → WithoutBoth entry.transaction found left → Barred w i left
+  barred i l rows g entry p others found left read by other-owners chosen without =
+      let barring = bars i l (get_or rows.objects (entry_object w i) []) (get_or rows.keys p []) others
       (g.on_object (entry_object w i) (readable.objects i l))
-      (row_alike w readable i l whole same alike g p (omega (arith, by.within, readable.entries)) by)
-      other-owners in
+      (row_alike w readable i l rows g p (omega (arith, by.within, readable.entries)) by) other-owners in
       record {
-        unrecoverables = barring recoverable_rules recoverable_told u u'
+        unrecoverables = barring recoverable_rules recoverable_told found.unrecoverable left.unrecoverable
             (rw (read.of_object, read.of_number) at chosen.unrecoverables)
-            (rw read.of_transaction at without-u);
-        conflictings = barring commuting_rules commuting_told v v'
+            (rw read.of_transaction at without.0);
+        conflictings = barring commuting_rules commuting_told found.conflicting left.conflicting
             (rw (read.of_object, read.of_number) at chosen.conflictings)
-            (rw read.of_transaction at without-v);
+            (rw read.of_transaction at without.1);
       }

@@ -160,21 +160,3 @@ module _ (n : ℕ) where
         no_column n (λ q. omega arith) (λ q. omega arith) (λ q. omega arith) (λ q. omega arith)
             b c d a,
       ))))))
-
-  -- The numbers below 4 but 1, and those from 9 on but 9 and 11.
-  pub low_column : n < 4 → (n ≡ 1 → ⊥) → 4 ≡ key_column n
-  low_column l other =
-      no_column n other (λ e. omega arith) (λ e. omega arith) (λ e. omega arith) (λ e. omega arith)
-      (λ e. omega arith) (λ e. omega arith) (λ e. omega arith)
-
-  pub high_column : 9 ≤ n → (n ≡ 9 → ⊥) → (n ≡ 11 → ⊥) → 4 ≡ key_column n
-  high_column l other last =
-      no_column n (λ e. omega arith) (λ e. omega arith) (λ e. omega arith) (λ e. omega arith) (λ e. omega arith)
-      (λ e. omega arith) other last
-
-  -- Those between that are not 4, 5 or 6.
-  pub middle_column : 4 ≤ n → n < 9 → (n ≡ 4 → ⊥) → (n ≡ 5 → ⊥) → (n ≡ 6 → ⊥) → 0 ≡ key_column n
-  unfolding key_column
-  middle_column l m a b c =
-      same n 7 (λ (e : n ≡ 7). sym (ap key_column e))
-      (λ (e : n ≡ 7 → ⊥). let last : n ≡ 8 = omega arith in sym (ap key_column last))

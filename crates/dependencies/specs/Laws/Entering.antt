@@ -9,10 +9,12 @@ use Rattle.pairs.specs.Pairs.{column_of}
 use Rattle.representatives.specs.Representatives.{entry_transaction, entry_number, entry_key, entry_value}
 use Rattle.representatives.specs.Representatives.{AlikeBy, FirstBy, Representative, Twin}
 use Rattle.representatives.specs.Laws.Firsts.{alike_back, alike_both, firsts_apart}
-use Rattle.dependencies.specs.Dependencies.{key_column, EntryRead, Owner, Differing, OwnersRow, Added}
-use Rattle.dependencies.specs.Dependencies.{WithOwner, On, AlikeByKey, Pushes, Modifies, ObjectRow, KeyRow}
+use Rattle.dependencies.specs.declared.Entry.{Entry}
+use Rattle.dependencies.specs.declared.Rows.{Rows}
+use Rattle.dependencies.specs.Dependencies.{key_column, EntryRead, Owner, Differing, OwnersRow}
+use Rattle.dependencies.specs.Dependencies.{On, AlikeByKey, Pushes, Modifies, ObjectRow, KeyRow}
 use Rattle.dependencies.specs.Dependencies.{Gathered, Others}
-use Rattle.dependencies.specs.Laws.Sets.{some_more}
+use Rattle.dependencies.specs.Laws.Sets.{some_more, Added, WithOwner}
 use Rattle.dependencies.specs.Laws.Numbers.{ranged}
 use Rattle.dependencies.specs.Laws.Differing.{differing_of}
 use Rattle.dependencies.specs.Laws.Rows.{row_kept, row_more}
@@ -25,9 +27,27 @@ module _ {A : Type 0} (l : List A) (o : ℕ) (r s d : A) where
   twice_other : (x : ℕ) → (x ≡ o → ⊥) → get_or (set (set l o r) o s) x d ≡ get_or l x d
   twice_other x e = get_or-set_other (set l o r) o x s d e ∙ get_or-set_other l o x r d e
 
-module _ (w : List ℕ) (i : ℕ) (whole same : List (List ℕ)) (alike : List ℕ) (g : Gathered w i whole same alike)
-    (t o number p q : ℕ) (read : EntryRead w i t o number) (n : p < 256) (by : Representative w i p)
-    (twin : Twin w i q) (x again : ℕ) (others : Others w i x) where
+module _ (w : List ℕ) (i : ℕ) (rows : Rows) (g : Gathered w i rows) (entry : Entry) (p q : ℕ)
+    (read : EntryRead w i entry) (n : p < 256) (by : Representative w i p) (twin : Twin w i q) (x again : ℕ)
+    (others : Others w i x) where
+  abbrev whole : List (List ℕ)
+  whole = rows.objects
+
+  abbrev same : List (List ℕ)
+  same = rows.keys
+
+  abbrev alike : List ℕ
+  alike = rows.values
+
+  abbrev t : ℕ
+  t = entry.transaction
+
+  abbrev o : ℕ
+  o = entry.object
+
+  abbrev number : ℕ
+  number = entry.number
+
   -- The owner, where it has another item or value besides.
   module _ (single : ℕ) (own : Members single (λ b. eqb b t))
       (both : Members again (λ b. has single b && has x b)) where
@@ -119,7 +139,8 @@ module _ (w : List ℕ) (i : ℕ) (whole same : List (List ℕ)) (alike : List �
         → WithOwner 6 (get_or (set whole o r) o []) (column_of number) t r'
         → WithOwner 4 (get_or (set same p s) p []) (key_column number) t s'
         → Added (number ≡ 11) 256 alike q (λ b. t ≡ b) m
-        → Gathered w (i + 1) (set (set whole o r) o r') (set (set same p s) p s') m
+        → Gathered w (i + 1)
+        (record { objects = set (set whole o r) o r'; keys = set (set same p s) p s'; values = m })
     gathered_more r r' s s' m varied-items varied-values owned owned-key added =
         let in-objects : o < length whole = omega (arith, g.objects, read.within) in
         let in-entries : p < length same = omega (arith, g.entries) in

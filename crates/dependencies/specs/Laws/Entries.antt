@@ -7,7 +7,6 @@ use Rattle.operations.specs.Operations.{Kind, Operation, Answer, kind_of, All}
 use Rattle.operations.specs.Log.{Entry, Recovers, Recoverable}
 use Rattle.operations.specs.PairRules.{recoverable, commutes}
 use Rattle.operations.proofs.Laws.Cases.{split}
-use Rattle.operations.proofs.Laws.Objects.{object}
 use Rattle.store.specs.Store.{Logged, on_object}
 use Rattle.store.specs.Dependency.{Conflict, DependsOn}
 use Rattle.store.specs.Layout.{word, tabulate, entry_at, operation_at, base, decode}

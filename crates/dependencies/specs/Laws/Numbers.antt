@@ -1,8 +1,8 @@
 -- Operations by number: their kinds and columns, and what the rules pick.
-use Rattle.std.specs.Prelude.{ℕ, ◌+◌, ◌-◌, ◌≤◌, ◌≡◌, refl, true, false, ◌||◌, ◌⊎◌, List, eqb, get_or}
+use Rattle.std.specs.Prelude.{ℕ, ◌+◌, ◌-◌, ◌≤◌, ◌<◌, ◌≡◌, refl, true, false, ◌||◌, ◌⊎◌, List, eqb, get_or}
 use Rattle.std.proofs.Common.{ap, ◌∙◌, true≢false, arith, eqb-true}
 use Rattle.std.proofs.lemmas.Bool.{eqb-false, not-false}
-use Rattle.operations.specs.Operations.{Kind, Stack, Set, Table, kind_number, Operation, key_of, value_of}
+use Rattle.operations.specs.Operations.{Kind, Stack, Set, Table, Operation, key_of, value_of}
 use Rattle.operations.specs.PairRules.{Rule, always, never, apart, equal, agreeing, Rules, allows, rule_at}
 use Rattle.operations.specs.PairRules.{first_number}
 use Rattle.operations.specs.PairRules.{last_number, Numbered, kind_numbered}
@@ -32,16 +32,9 @@ ranged number numbered =
     widths Set = omega arith
     widths Table = omega arith
 
--- How many operations a kind has.
-pub broad : (kind : Kind) → kind_number kind ≡ 3 → last_number kind + 1 - first_number kind ≡ 5
-broad Stack e = absurd (omega arith)
-broad Set e = absurd (omega arith)
-broad Table e = refl
-
-pub narrow : (kind : Kind) → (kind_number kind ≡ 3 → ⊥) → last_number kind + 1 - first_number kind ≡ 3
-narrow Stack n = refl
-narrow Set n = refl
-narrow Table n = absurd (n refl)
+-- Its place among the operations of its kind.
+pub column_within : (number : ℕ) → Numbered number → (first : ℕ) → first ≡ first_of number → number - first < 6
+column_within number numbered first e = let r = ranged number numbered in omega (arith, e, r.most, r.width)
 
 -- ---- What a rule picks
 

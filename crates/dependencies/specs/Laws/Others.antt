@@ -1,5 +1,5 @@
 -- The rows of an entry, and the owners of entries with another item or value that they tell.
-use Rattle.std.specs.Prelude.{ℕ, ◌≤◌, ◌<◌, ◌≡◌, refl, true, false, ◌⊎◌, List, [], get_or}
+use Rattle.std.specs.Prelude.{ℕ, ◌≤◌, ◌<◌, ◌≡◌, refl, true, false, List, [], get_or}
 use Rattle.std.proofs.Common.{sym, ◌∙◌, inl, inr, ⊎_elim, arith}
 use Rattle.std.proofs.Math.Path.{ap}
 use Rattle.operations.specs.PairRules.{kind_numbered, first_number, last_number}
@@ -10,6 +10,8 @@ use Rattle.store.specs.Layout.{word}
 use Rattle.representatives.specs.Representatives.{entry_object, entry_number, entry_key, entry_value}
 use Rattle.representatives.specs.Representatives.{Readable, Alike, AlikeBy, Representative, Twin}
 use Rattle.representatives.specs.Laws.Firsts.{alike_back, alike_both}
+use Rattle.dependencies.specs.declared.Entry.{Entry}
+use Rattle.dependencies.specs.declared.Rows.{Rows}
 use Rattle.dependencies.specs.Dependencies.{key_column, EntryRead, Owner, Owned, Varied, OwnersRow, On, AlikeByKey}
 use Rattle.dependencies.specs.Dependencies.{Pushes, Modifies, ObjectRow, KeyRow, Gathered, Others, Found}
 use Rattle.dependencies.specs.Laws.Sets.{represents_same}
@@ -126,15 +128,14 @@ module _ (w : List ℕ) (readable : Readable w) (i : ℕ) (l : i < word w 0) whe
             (j, n, (alike_both true w q i j (alike_back true w i q like) (alike, number ∙ sym f, value), t)),
       ))
 
-  module _ (whole same : List (List ℕ)) (alike : List ℕ) (g : Gathered w i whole same alike) (p : ℕ) (n : p < 256)
-      (by : Representative w i p) where
+  module _ (rows : Rows) (g : Gathered w i rows) (p : ℕ) (n : p < 256) (by : Representative w i p) where
     -- The row of the entries like entry i, which entry p represents.
-    pub row_alike : OwnersRow 4 (get_or same p []) (KeyRow w i i)
+    pub row_alike : OwnersRow 4 (get_or rows.keys p []) (KeyRow w i i)
     row_alike =
         let row = g.represented p n by.first in
         record {
           columns = row.columns;
-          sets = represents_same (KeyRow w p i) (KeyRow w i i) (get_or same p []) row.sets
+          sets = represents_same (KeyRow w p i) (KeyRow w i i) (get_or rows.keys p []) row.sets
               (λ m b. (
                 ⊎_elim (λ (j, k, ((a, tells), c, t)). inl (j, k, ((like_i j a, tells), c, t)))
                     (λ (at, v).
@@ -159,11 +160,13 @@ module _ (w : List ℕ) (readable : Readable w) (i : ℕ) (l : i < word w 0) whe
         like_p : (j : ℕ) → Alike w i j → Alike w p j
         like_p j = alike_both false w p i j (alike_back false w i p by.alike)
 
-    pub others : (t object number q r : ℕ) → EntryRead w i t object number → q < 256 → Twin w i q
-        → Found number (get_or whole object []) (get_or same p []) (get_or alike q 0) r → Others w i r
-    others t object number q r read below twin found =
+    pub others : (entry : Entry) (q r : ℕ) → EntryRead w i entry → q < 256 → Twin w i q
+        → Found entry.number (get_or rows.objects entry.object []) (get_or rows.keys p []) (get_or rows.values q 0) r
+        → Others w i r
+    others entry q r read below twin found =
         let row = g.on_object o (readable.objects i l) in
-        let own : Found (entry_number w i) (get_or whole o []) (get_or same p []) (get_or alike q 0) r =
+        let own : Found (entry_number w i) (get_or rows.objects o []) (get_or rows.keys p [])
+        (get_or rows.values q 0) r =
         rw (read.of_object, read.of_number) at found in
         record {
           pushes = λ f.

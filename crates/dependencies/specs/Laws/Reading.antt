@@ -8,6 +8,7 @@ use Rattle.pairs.specs.Pairs.{first_of, column_of, width_of}
 use Rattle.store.specs.Layout.{word, operation_at}
 use Rattle.representatives.specs.Representatives.{entry_transaction, entry_object, entry_number, entry_key, entry_value}
 use Rattle.representatives.specs.Representatives.{Readable}
+use Rattle.dependencies.specs.declared.Entry.{Entry}
 use Rattle.dependencies.specs.Dependencies.{EntryRead}
 use Rattle.dependencies.specs.Laws.Numbers.{ranged}
 
@@ -50,9 +51,9 @@ module _ (w : List ℕ) (readable : Readable w) where
     pub value_written : value_of (operation_at w i) ≡ value_of (operation_at w j) → entry_value w j ≡ entry_value w i
     value_written v = sym (readable.stored j m).2 ∙ (sym v ∙ (readable.stored i l).2)
 
-  pub entry_read : (i : ℕ) → i < word w 0 → (t o number : ℕ) → t ≡ entry_transaction w i → o ≡ entry_object w i
-      → number ≡ entry_number w i → EntryRead w i t o number
-  entry_read i l t o number et eo en =
+  pub entry_read : (i : ℕ) → i < word w 0 → (entry : Entry) → entry.transaction ≡ entry_transaction w i
+      → entry.object ≡ entry_object w i → entry.number ≡ entry_number w i → EntryRead w i entry
+  entry_read i l entry et eo en =
       record {
         of_transaction = et;
         of_object = eo;

@@ -2,13 +2,13 @@
 use Rattle.std.specs.Prelude.{ℕ, ◌+◌, ◌<◌, ◌≡◌, true, ◌↔◌, ◌⊎◌, List, [], get_or, replicate}
 use Rattle.std.proofs.Common.{sym, ◌∙◌, inl, inr, ⊎_elim, arith}
 use Rattle.std.proofs.lemmas.List.{length-replicate, get_or-replicate}
-use Rattle.operations.proofs.Laws.Cases
 use Rattle.bitset.specs.Laws.{holds_none}
 use Rattle.pairs.specs.Pairs.{column_of}
 use Rattle.representatives.specs.Representatives.{entry_transaction, entry_number, entry_key, entry_value, AlikeBy}
 use Rattle.dependencies.specs.Dependencies.{key_column, Owner, Owned, Differing, Varied, OwnersRow}
-use Rattle.dependencies.specs.Dependencies.{Added, WithOwner, On, AlikeByKey, Pushes, Modifies, Gathered}
-use Rattle.dependencies.specs.Laws.Sets.{some_none, some_more, represents_same, blank, blank_row, added_row}
+use Rattle.dependencies.specs.Dependencies.{On, AlikeByKey, Pushes, Modifies, Gathered}
+use Rattle.dependencies.specs.Laws.Sets.{some_none, some_more, represents_same, blank, blank_row, added_row, Added}
+use Rattle.dependencies.specs.Laws.Sets.{WithOwner}
 use Rattle.dependencies.specs.Laws.Differing.{varied_more}
 
 -- ---- A row of owners by column, and at one place those with different items
@@ -82,7 +82,8 @@ module _ (w : List ℕ) where
       })
 
   pub gathered_none : (n m k : ℕ) → n ≡ 16 → m ≡ 256 → k ≡ 256
-      → Gathered w 0 (replicate n (vacant 6)) (replicate m (vacant 4)) (replicate k 0)
+      → Gathered w 0
+      (record { objects = replicate n (vacant 6); keys = replicate m (vacant 4); values = replicate k 0 })
   gathered_none n m k e f g =
       record {
         objects = length-replicate n (vacant 6) ∙ e;

@@ -12,7 +12,7 @@ use Rattle.store.proofs.Laws.Reading.{live_below}
 use Rattle.store.proofs.Laws.Statuses.{active_apart}
 use Rattle.protocol.specs.Ending.{ended, commit, Settlement, committed_first, settled_all}
 use Rattle.protocol.proofs.Laws.Ranks.{ended_count}
-use Rattle.protocol.proofs.Laws.Settling.{commit_count, settled_few}
+use Rattle.protocol.proofs.Laws.Settling.{commit_count}
 use Rattle.ending.specs.Ending.{Tracked, Forgotten, Concluded}
 use Rattle.ending.specs.Laws.Settling.{ended_tracked, commit_tracked}
 
@@ -97,11 +97,6 @@ module _ {w sets : List ℕ} {finished : ℕ} (h : Tracked w sets finished) {t :
 
     module _ (list : List ℕ) {book last : List ℕ} {count : ℕ}
         (c : Concluded (settled_all (decode base after)) (rest_of list t) book last count) where
-      pub commit_counted : count < 64
-      commit_counted =
-          let settled = commit_settled (rest_of list t) book last count c in
-          omega (arith, settled.2, settled_few (commit t (decode base w)) few_left)
-
       pub commit_first : 0 < length list
           → Concluded (committed_first t (settled_all (commit t (decode base w)))) list book
           (put_mid 1 (length (set list 0 t) - 1) (set list 0 t) last) (1 + count)

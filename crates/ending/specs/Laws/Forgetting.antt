@@ -1,10 +1,9 @@
 -- Sets of dependencies that a transaction leaves.
-use Rattle.std.specs.Prelude.{ℕ, ◌+◌, ◌<◌, ◌≤◌, ◌≡◌, refl, false, not, ◌&&◌, ◌↔◌, List, eqb, ltb, length, get_or, set}
+use Rattle.std.specs.Prelude.{ℕ, ◌<◌, ◌≤◌, ◌≡◌, refl, false, ◌↔◌, List, ltb, length, set}
 use Rattle.std.proofs.Common.{arith, ltb-true, ltb-false, get_or-set_same, get_or-set_other}
 use Rattle.std.proofs.Math.ListN.{get_or-eq_default}
 use Rattle.operations.proofs.Laws.Cases.{split, by_key}
-use Rattle.bitset.specs.Bitset.{has, Members}
-use Rattle.bitset.specs.Laws.{nobody_in, in_rest}
+use Rattle.bitset.specs.Laws.{nobody_in}
 use Rattle.graph.specs.Edges.{EdgeIn}
 use Rattle.ending.specs.Ending.{Forgotten}
 use mathlib.Core.Logic.Iff
@@ -13,29 +12,6 @@ module _ (sets : List ℕ) (t : ℕ) where
   -- The sets of those below n are without t, the others as they were.
   abbrev pub ForgottenBelow : ℕ → List ℕ → Type 0
   ForgottenBelow n left = (a b : ℕ) → EdgeIn left a b ↔ (EdgeIn sets a b × (a < n → b ≡ t → ⊥))
-
-  pub forgotten_none : ForgottenBelow 0 sets
-  forgotten_none a b = (λ m. (m, λ l. absurd (omega (arith, l))), λ m. m.0)
-
-  pub forgotten_more : (i : ℕ) (left : List ℕ) (x : ℕ) → i < length left → ForgottenBelow i left
-      → Members x (λ h. has (get_or left i 0) h && not (eqb h t)) → ForgottenBelow (i + 1) (set left i x)
-  forgotten_more i left x l before rest a b =
-      by_key (λ (c : ℕ). EdgeIn (set left i x) c b ↔ (EdgeIn sets c b × (c < i + 1 → b ≡ t → ⊥))) a i own other
-    where
-      own : EdgeIn (set left i x) i b ↔ (EdgeIn sets i b × (i < i + 1 → b ≡ t → ⊥))
-      own =
-          let r = in_rest x (get_or left i 0) t rest b in
-          rw (get_or-set_same left i x 0 l) (
-            λ m. (((before i b).0 (r.0 m).0).0, λ k. (r.0 m).1),
-            λ m. r.1 ((before i b).1 (m.0, λ k. absurd (omega (arith, k))), m.1 (omega arith)),
-          )
-
-      other : (a ≡ i → ⊥) → EdgeIn (set left i x) a b ↔ (EdgeIn sets a b × (a < i + 1 → b ≡ t → ⊥))
-      other n =
-          rw (get_or-set_other left i a x 0 n) (
-            λ m. (((before a b).0 m).0, λ k. ((before a b).0 m).1 (omega (arith, k, n))),
-            λ m. (before a b).1 (m.0, λ k. m.1 (omega arith)),
-          )
 
 module _ (sets : List ℕ) (t : ℕ) (whole : length sets ≡ 64) (l : t < 64) where
   within : (a b : ℕ) → EdgeIn sets a b → a < 64

@@ -1,8 +1,9 @@
 -- The pseudo-committed transaction of lowest rank that depends on nobody, found among all of them in turn.
-use Rattle.std.specs.Prelude.{ℕ, ◌+◌, ◌-◌, ◌<◌, ◌≤◌, ◌≡◌, refl, Bool, true, not, ◌&&◌, ◌↔◌, ◌⊎◌, List, eqb, ltb}
-use Rattle.std.proofs.Common.{sym, ap, ◌∙◌, subst, inl, inr, ⊎_elim, arith, ltb-true, ltb-false}
-use Rattle.operations.proofs.Laws.Cases.{split, by_key}
-use Rattle.bitset.specs.Bitset.{has, In, Members, Holds, Represents}
+use Rattle.std.specs.Prelude.{ℕ, ◌+◌, ◌<◌, ◌≡◌, refl, Bool, true, not, ◌&&◌, ◌↔◌, List, eqb, ltb, IfSome}
+use Rattle.std.specs.Prelude.{Option, None, Some}
+use Rattle.std.proofs.Common.{sym, ap, ◌∙◌, arith, ltb-true, ltb-false}
+use Rattle.operations.proofs.Laws.Cases.{split, same, by_key}
+use Rattle.bitset.specs.Bitset.{has, In, Members, Represents}
 use Rattle.bitset.specs.Laws.{nobody_in, in_rest}
 use Rattle.graph.specs.Edges.{EdgeIn}
 use Rattle.store.specs.Store.{pseudo_committed, Store, status_of, PseudoCommitted}
@@ -13,10 +14,9 @@ use Rattle.store.proofs.Theorems.{representable}
 use Rattle.store.proofs.Laws.Encoding.{status_written}
 use Rattle.store.proofs.Laws.Reading.{status_by_word}
 use Rattle.protocol.specs.Ending.{lowest_ready}
-use Rattle.protocol.proofs.Laws.Ranks.{rank_below}
-use Rattle.protocol.proofs.Laws.Settling.{lowest_found, none_ready}
-use Rattle.statuses.specs.Laws.Words.{finished_read, finished_below}
-use Rattle.ending.specs.Nobody.{Names}
+use Rattle.protocol.proofs.Laws.Settling.{lowest_found, none_ready, lowest_is}
+use Rattle.statuses.specs.Laws.Words.{finished_below}
+use Rattle.ending.specs.Ending.{named, Before}
 
 -- It depends on nobody, as its set tells.
 pub ready_tested : (sets : List ℕ) (s : Store) (t : ℕ) → Represents sets (DependsOn s.log)
@@ -24,105 +24,93 @@ pub ready_tested : (sets : List ℕ) (s : Store) (t : ℕ) → Represents sets (
 ready_tested sets s t edges b test =
     (λ e u d. test.0 e u ((edges t u).1 d), λ ready. test.1 (λ u m. ready u ((edges t u).0 m)))
 
-module _ (s : Store) where
-  -- One of that rank depends on nobody; 64 and 64 stand for none found.
-  abbrev Found : ℕ → ℕ → Type 0
-  Found lowest rank =
-      ((lowest ≡ 64) × (rank ≡ 64))
-      ⊎ ((lowest < 64) × (status_of s lowest ≡ pseudo_committed rank) × Ready s.log lowest)
-
-  -- Of those that are not left, no other of a lower rank does; those that are left are pseudo-committed.
-  pub record LeastPassed (left lowest rank : ℕ) : Type 0 where
-    pub found : Found lowest rank
-    pub within : (u : ℕ) → In left u → PseudoCommitted s u
-    pub least : (u r : ℕ) → (In left u → ⊥) → status_of s u ≡ pseudo_committed r → Ready s.log u → rank ≤ r
-
-  pub least_none : (finished : ℕ) → Holds finished (PseudoCommitted s) → LeastPassed finished 64 64
-  least_none finished members =
-      record {
-        found = inl (refl, refl);
-        within = λ u. (members u).0;
-        least = λ u r out f. absurd (out ((members u).1 (r, f)));
-      }
-
-module _ (w : List ℕ) (left lowest rank : ℕ) (h : LeastPassed (decode base w) left lowest rank)
-    (next : ℕ) (m : In left next) (status : ℕ) (e : status ≡ word w (1 + next)) where
+module _ (w : List ℕ) where
   abbrev s : Store
   s = decode base w
 
-  below : next < 64
-  below = finished_below w next (h.within next m)
+  -- One that may be the lowest ready one.
+  abbrev Candidate : ℕ → Type 0
+  Candidate t = PseudoCommitted s t × Ready s.log t
 
-  -- The word of a pseudo-committed one is its rank and 2.
-  rank_is : (r : ℕ) → status_of s next ≡ pseudo_committed r → status ≡ 2 + r
-  rank_is r f =
-      omega (arith, ap status_word (sym (status_by_word base w next status below e) ∙ f), status_written status)
+  -- Of those that are not left, none is before the lowest found; those that are left are pseudo-committed.
+  pub record LeastPassed (left : ℕ) (lowest : Option ℕ) : Type 0 where
+    pub found : IfSome lowest Candidate
+    pub within : (u : ℕ) → In left u → PseudoCommitted s u
+    pub least : (u : ℕ) → (In left u → ⊥) → Candidate u → Before w u lowest → ⊥
 
-  pub has_rank_lem : 2 ≤ status
-  has_rank_lem = let p = h.within next m in omega (arith, rank_is p.0 p.1)
+  pub found_below : (left : ℕ) (lowest : Option ℕ) → LeastPassed left lowest → IfSome lowest (λ t. t < 64)
+  found_below left None h = tt
+  found_below left (Some t) h = finished_below w t h.found.0
 
-  module _ (rest : ℕ) (removed : Members rest (λ u. has left u && not (eqb u next))) where
-    one_more : (t least : ℕ) → Found s t least → least ≤ rank
-        → ((r : ℕ) → status_of s next ≡ pseudo_committed r → Ready s.log next → least ≤ r)
-        → LeastPassed s rest t least
-    one_more t least found lower own =
+  module _ (left next rest : ℕ) (m : In left next)
+      (removed : Members rest (λ u. has left u && not (eqb u next))) where
+    passed : (u : ℕ) → (In rest u → ⊥) → (u ≡ next → ⊥) → In left u → ⊥
+    passed u out other k = out ((in_rest rest left next removed u).1 (k, other))
+
+    -- It is before the lowest found, and depends on nobody.
+    pub least_lower : (lowest : Option ℕ) → LeastPassed left lowest → Ready s.log next → Before w next lowest
+        → LeastPassed rest (Some next)
+    least_lower lowest h ready before =
         record {
-          found = found;
+          found = (h.within next m, ready);
           within = λ u k. h.within u ((in_rest rest left next removed u).0 k).0;
           least =
-              λ (u r : ℕ) (out : In rest u → ⊥).
-              by_key (λ (x : ℕ). status_of s x ≡ pseudo_committed r → Ready s.log x → least ≤ r) u next (own r)
-              (λ (other : u ≡ next → ⊥) (f : status_of s u ≡ pseudo_committed r) (ready : Ready s.log u).
-              let passed : In left u → ⊥ = λ k. out ((in_rest rest left next removed u).1 (k, other)) in
-              omega (arith, h.least u r passed f ready, lower));
+              λ (u : ℕ) (out : In rest u → ⊥) (own : Candidate u) (lower : Before w u (Some next)).
+              same u next (λ (e : u ≡ next). omega (arith, lower, ap (λ (x : ℕ). word w (1 + x)) e))
+              (λ (other : u ≡ next → ⊥).
+              h.least u (passed u out other) own (before_both lowest u lower before));
+        }
+      where
+        before_both : (lowest : Option ℕ) (u : ℕ) → Before w u (Some next) → Before w next lowest → Before w u lowest
+        before_both None u lower before = tt
+        before_both (Some t) u lower before = omega (arith, lower, before)
+
+    -- It is not before it, or depends on somebody.
+    pub least_kept : (lowest : Option ℕ) → LeastPassed left lowest → (Ready s.log next → Before w next lowest → ⊥)
+        → LeastPassed rest lowest
+    least_kept lowest h neither =
+        record {
+          found = h.found;
+          within = λ u k. h.within u ((in_rest rest left next removed u).0 k).0;
+          least =
+              λ (u : ℕ) (out : In rest u → ⊥).
+              by_key (λ (x : ℕ). Candidate x → Before w x lowest → ⊥) u next (λ own. neither own.1)
+              (λ (other : u ≡ next → ⊥). h.least u (passed u out other));
         }
 
-    -- Its rank is lower, and it depends on nobody.
-    pub least_lower : status - 2 < rank → Ready s.log next → LeastPassed s rest next (status - 2)
-    least_lower lower ready =
-        let ranked = status_by_word base w next status below e ∙ finished_read status has_rank_lem in
-        one_more next (status - 2) (inr (below, ranked, ready)) (omega (arith, lower))
-        (λ r f own. omega (arith, rank_is r f))
+  -- The word of a pseudo-committed one is its rank and 2.
+  rank_is : (t r : ℕ) → status_of s t ≡ pseudo_committed r → word w (1 + t) ≡ 2 + r
+  rank_is t r f =
+      omega (
+        arith,
+        ap status_word (sym (status_by_word base w t (word w (1 + t)) (finished_below w t (r, f)) refl) ∙ f),
+        status_written (word w (1 + t)),
+      )
 
-    -- Its rank is not lower, or it depends on somebody.
-    pub least_kept : (status - 2 < rank → Ready s.log next → ⊥) → LeastPassed s rest lowest rank
-    least_kept neither =
-        one_more lowest rank h.found (omega arith)
-        (λ r f ready.
-        split (ltb r rank)
-        (λ (k : ltb r rank ≡ true). absurd (neither (omega (arith, rank_is r f, ltb-true r rank k)) ready))
-        (ltb-false r rank))
+  module _ (p : Packed base w) (once : OnceEach s) (gapless : WithoutGaps s) where
+    -- Where none is left, it is the lowest ready one.
+    pub least_named : (left : ℕ) → left ≡ 0 → (lowest : Option ℕ) → LeastPassed left lowest
+        → named lowest ≡ lowest_ready s
+    least_named left empty None h =
+        sym ((none_ready s (representable w p).statuses once gapless).1
+        (λ t q ready. h.least t (nobody_in left t empty) (q, ready) tt))
+    least_named left empty (Some t) h =
+        let ((rank, ranked), ready) = h.found in
+        sym (lowest_found s (representable w p).statuses once gapless t
+        (record {
+          rank = rank;
+          ranked = ranked;
+          ready = ready;
+          lowest = λ u r f own.
+              split (ltb r rank)
+              (λ (k : ltb r rank ≡ true).
+              absurd (h.least u (nobody_in left u empty) ((r, f), own)
+              (omega (arith, rank_is u r f, rank_is t rank ranked, ltb-true r rank k))))
+              (ltb-false r rank);
+        }))
 
-module _ (w : List ℕ) (p : Packed base w) (once : OnceEach (decode base w))
-    (gapless : WithoutGaps (decode base w)) where
-  -- Where none is left, it is the lowest ready one.
-  pub least_named : (lowest rank left : ℕ) → left ≡ 0 → LeastPassed (decode base w) left lowest rank
-      → Names lowest (lowest_ready (decode base w))
-  least_named lowest rank left empty h = ⊎_elim nobody somebody h.found
-    where
-      nobody : (lowest ≡ 64) × (rank ≡ 64) → Names lowest (lowest_ready (decode base w))
-      nobody (e, f) =
-          subst (Names lowest)
-          (sym ((none_ready (decode base w) (representable w p).statuses once gapless).1
-          (λ (t : ℕ) (q : PseudoCommitted (decode base w) t) (ready : Ready (decode base w).log t).
-          omega (
-            arith,
-            f,
-            h.least t q.0 (nobody_in left t empty) q.1 ready,
-            rank_below (decode base w) (representable w p).statuses once gapless t q.0 q.1,
-          ))))
-          e
-
-      somebody : (lowest < 64) × (status_of (decode base w) lowest ≡ pseudo_committed rank)
-          × Ready (decode base w).log lowest
-          → Names lowest (lowest_ready (decode base w))
-      somebody (m, ranked, ready) =
-          subst (Names lowest)
-          (sym (lowest_found (decode base w) (representable w p).statuses once gapless lowest
-          (record {
-            rank = rank;
-            ranked = ranked;
-            ready = ready;
-            lowest = λ u r f own. h.least u r (nobody_in left u empty) f own;
-          })))
-          (refl, m)
+  -- The one that is named is a transaction.
+  pub named_below : Packed base w → (t : ℕ) → named (Some t) ≡ lowest_ready s → t < 64
+  named_below p t e =
+      let lowest = lowest_is s (representable w p).statuses t (sym e) in
+      finished_below w t (lowest.rank, lowest.ranked)

@@ -1,5 +1,5 @@
 -- Transactions that end one after the other: the book with its dependencies, and the list of those that committed.
-use Rattle.std.specs.Prelude.{ℕ, suc, ◌+◌, ◌<◌, ◌≤◌, ◌≡◌, refl, not, ◌&&◌, ◌↔◌, List, [], ◌∷◌, ◌++◌, eqb, length, drop}
+use Rattle.std.specs.Prelude.{ℕ, suc, ◌+◌, ◌<◌, ◌≤◌, ◌≡◌, not, ◌&&◌, ◌↔◌, List, [], ◌∷◌, ◌++◌, eqb, length, drop}
 use Rattle.std.specs.Prelude.{set, get_or}
 use Rattle.std.proofs.Common.{sym, ap, ◌∙◌, subst, append-nil, arith, length-append, length-set, drop-cons}
 use Rattle.std.proofs.Math.Option.{none, some}
@@ -99,19 +99,6 @@ module _ (start first : List ℕ) where
         settled_all (decode base start) ≡ settlement rest.store (done ++ rest.committed)
 
 module _ {start first : List ℕ} where
-  pub settling_begun : {sets : List ℕ} {finished : ℕ} → Tracked start sets finished
-      → pseudo_committed_count (decode base start) ≤ length first → Settling start first start first sets finished 0
-  settling_begun h room =
-      record {
-        book = h;
-        done = [];
-        counted = refl;
-        front = refl;
-        whole = refl;
-        room = omega (arith, room);
-        leads = refl;
-      }
-
   module _ {w list sets : List ℕ} {finished count : ℕ} (h : Settling start first w list sets finished count) where
     -- None is ready.
     pub settling_ended : lowest_ready (decode base w) ≡ none

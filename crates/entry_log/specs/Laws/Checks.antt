@@ -1,14 +1,24 @@
--- What the tests of each of several facts say.
-use Rattle.std.specs.Prelude.{ℕ, ◌≤◌, ◌<◌, ◌≡◌, refl, Bool, true, false, ◌↔◌}
-use Rattle.std.proofs.Common.{arith}
-use Rattle.operations.proofs.Laws.Cases.{yes, no, denied}
+-- What the tests of each of several numbers say.
+use Rattle.std.specs.Prelude.{ℕ, ◌<◌, ◌≡◌, refl, Bool, true, false, ◌↔◌, length, MatchBool}
+use Rattle.std.specs.List.{AllWithin, HoldsAt, range_with_len}
+use Rattle.std.proofs.Common.{subst, ◌∙◌, arith}
+use Rattle.std.proofs.lemmas.List.FromFn.{length-range_with_len, get_or-range_with_len}
+use Rattle.operations.proofs.Laws.Cases.{yes, no}
 
 module _ (P : ℕ → Type 0) (n : ℕ) where
   abbrev pub Each : Type 0
   Each = (i : ℕ) → i < n → P i
 
-  pub each_refuted : (i : ℕ) (b : Bool) → i < n → b ≡ false → (b ≡ true) ↔ P i → (false ≡ true) ↔ Each
-  each_refuted i b l e h = no refl (λ each. denied h e (each i l))
-
-  pub each_shown : (i : ℕ) → n ≤ i → ((k : ℕ) → k < i → P k) → (true ≡ true) ↔ Each
-  each_shown i l h = yes refl (λ k m. h k (omega arith))
+  -- What `all` over the numbers below n says.
+  pub each_decided : (r : Bool)
+      → MatchBool r (AllWithin P (range_with_len 0 n) 0 (length (range_with_len 0 n)))
+      ((k : ℕ) × (k < length (range_with_len 0 n)) × HoldsAt (λ i. P i → ⊥) (range_with_len 0 n) k)
+      → (r ≡ true) ↔ Each
+  each_decided true all =
+      yes refl
+      (λ k l. subst P (get_or-range_with_len 0 n k 0 l ∙ omega arith)
+      (all k 0 (omega arith) (omega (arith, length-range_with_len 0 n))))
+  each_decided false (k, l, fails) =
+      let below : k < n = omega (arith, length-range_with_len 0 n) in
+      no refl
+      (λ each. subst (λ i. P i → ⊥) (get_or-range_with_len 0 n k 0 below ∙ omega arith) (fails 0) (each k below))

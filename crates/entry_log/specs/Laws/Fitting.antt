@@ -1,9 +1,9 @@
 -- What the tests of one entry say, and of all.
-use Rattle.std.specs.Prelude.{ℕ, zero, suc, ◌+◌, ◌≤◌, ◌<◌, ◌≡◌, refl, Bool, true, false, ◌↔◌, ◌⊎◌, List, eqb, ltb}
+use Rattle.std.specs.Prelude.{ℕ, zero, suc, ◌+◌, ◌≤◌, ◌<◌, ◌≡◌, refl, true, ◌↔◌, ◌⊎◌, List, eqb, ltb, leb}
 use Rattle.std.proofs.Common.{sym, ap, ◌∙◌, inl, inr, ⊎_elim, arith, eqb-true, eq-eqb, ltb-true, lt-ltb}
 use Rattle.std.proofs.Math.Option.{some, none-ne-some}
+use Rattle.std.proofs.lemmas.Bool.{lt-leb, le-ltb}
 use Rattle.operations.proofs.Laws.Cases.{yes, no}
-use Rattle.bitset.specs.Bitset.{has, Holds}
 use Rattle.operations.specs.Operations.{Kind, kind_number, Operation, on_stack, on_set, on_table, kind_of, key_of}
 use Rattle.operations.specs.Operations.{reduce_key}
 use Rattle.operations.specs.Operations.{StoredKey}
@@ -49,16 +49,13 @@ stored_key (on_table o) =
 -- ---- One entry
 
 module _ (w : List ℕ) (i : ℕ) where
-  pub live_past : (t : ℕ) → t ≡ word w (entry_start i) → 64 ≤ t → (false ≡ true) ↔ EntryLive w i
-  live_past t e l = no refl (λ live. omega (arith, live_below base w (word w (entry_start i)) live))
+  pub live_past : (t : ℕ) → t ≡ word w (entry_start i) → 64 ≤ t → (leb t 63 ≡ true) ↔ EntryLive w i
+  live_past t e l = no (lt-leb t 63 l) (λ live. omega (arith, live_below base w (word w (entry_start i)) live))
 
-  pub live_tested : (live t : ℕ) (b : Bool) → t ≡ word w (entry_start i) → Holds live (Live (decode base w))
-      → b ≡ has live t → (b ≡ true) ↔ EntryLive w i
-  live_tested live t b e lives r = rw (r, ← e) (lives t)
-
-  pub kind_past : (o : ℕ) → o ≡ word w (entry_start i + 1) → 16 ≤ o → (false ≡ true) ↔ EntryOfKind w i
+  pub kind_past : (o : ℕ) → o ≡ word w (entry_start i + 1) → 16 ≤ o → (ltb o 16 ≡ true) ↔ EntryOfKind w i
   kind_past o e l =
-      no refl (λ k. omega (arith, kind_below base w (word w (entry_start i + 1)) (kind_of (operation_at w i)) k))
+      no (le-ltb o 16 l)
+      (λ k. omega (arith, kind_below base w (word w (entry_start i + 1)) (kind_of (operation_at w i)) k))
 
   module _ (stored : AsStored w i) (n kind : ℕ) (number : n ≡ word w (entry_start i + 2))
       (by : kind ≡ kind_number (kind_numbered n)) where
@@ -74,8 +71,8 @@ module _ (w : List ℕ) (i : ℕ) where
         rw (← e)
         (λ q. h.0 (m, sym r ∙ eqb-true x kind q ∙ kind_stored), λ p. eq-eqb x kind (r ∙ (h.1 p).1 ∙ sym kind_stored))
 
-    pub no_key : kind ≡ 1 → (eqb kind 1 ≡ true) ↔ EntryKeyReduced w i
-    no_key e = yes (eq-eqb kind 1 e) ((stored_key (operation_at w i)).0 (inl (sym kind_stored ∙ e)))
+    pub no_key : kind ≡ 1 → (true ≡ true) ↔ EntryKeyReduced w i
+    no_key e = yes refl ((stored_key (operation_at w i)).0 (inl (sym kind_stored ∙ e)))
 
     pub key_tested : (k : ℕ) → k ≡ word w (entry_start i + 3) → (kind ≡ 1 → ⊥)
         → (ltb k 16_777_216 ≡ true) ↔ EntryKeyReduced w i

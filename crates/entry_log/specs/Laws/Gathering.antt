@@ -24,15 +24,6 @@ pub words_stored : (t object : ℕ) (operation : Operation) (answer : Answer) (o
     → entry_words_of t object operation answer ≡ entry_words (logged t object o (answer_of answer))
 words_stored t object operation answer o (n, k, v) = rw (n, k, v)
 
--- Words that were read from entry i, put at another place.
-pub words_moved : (w next : List ℕ) (i at t object : ℕ) (operation : Operation) (answer : Answer)
-    → t ≡ word w (entry_start i) → object ≡ word w (entry_start i + 1)
-    → (operation.number ≡ word w (entry_start i + 2)) × (operation.key ≡ word w (entry_start i + 3))
-    × (operation.value ≡ word w (entry_start i + 4))
-    → (answer.code ≡ word w (entry_start i + 5)) × (answer.value ≡ word w (entry_start i + 6))
-    → next ≡ sets w at (entry_words_of t object operation answer) → next ≡ sets w at (words_at w i)
-words_moved w next i at t object operation answer et eo (n, k, v) (ac, av) put = rw (et, eo, n, k, v, ac, av) at put
-
 words_at_lem : (w : List ℕ) (i : ℕ) → AsStored w i → words_at w i ≡ entry_words (entry_at w i)
 words_at_lem w i (n, k, v) = rw (n, k, v)
 

@@ -6,7 +6,6 @@ use Rattle.bitset.specs.Bitset.{has, In, Holds, Members}
 use Rattle.store.specs.Store.{Store, Active}
 use Rattle.store.specs.Layout.{base, encode, decode}
 use Rattle.store.specs.Dependency.{Ready, OnCycle, Predecessor, Successor}
-use Rattle.store.specs.Soundness.{Sound}
 use Rattle.store.proofs.Decisions.{whether_sound}
 use Rattle.store.proofs.Theorems.{representable}
 use Rattle.graph.specs.Edges.{EdgeIn}
@@ -20,23 +19,30 @@ use Rattle.protocol.specs.Calls.{end_reason, finish, cancel, concluded}
 use Rattle.protocol.specs.Terms.{EndAccepted}
 use Rattle.protocol.proofs.Laws.Ranks.{ended_count}
 use Rattle.protocol.proofs.Laws.Settling.{commit_count, settled_few}
-use Rattle.protocol.proofs.Laws.Reasons.{said_no, end_accepts}
+use Rattle.protocol.proofs.Laws.Reasons.{said_no, end_accepts, end_accepted}
 use Rattle.protocol.proofs.Laws.Protocol.{finishing, cancelling, on_circle, on_nobody, on_others}
+use Rattle.protocol.specs.Refusals.{refusal_number}
+use Rattle.protocol.specs.declared.Refusal.{Refusal}
+use Rattle.refusals.specs.Laws.{number_named}
 use Rattle.finishing.specs.Laws.Circles.{circle_found}
 
 -- ---- Refused
 
-module _ (w : List ℕ) (t : ℕ) (list : List ℕ) (reason : ℕ) (found : reason ≡ end_reason base whether_sound w t list)
-    (applies : reason ≡ 0 → ⊥) where
-  pub finish_refused : served w (outcome (refused reason) list []) ≡ finish base whether_sound w t list
+module _ (w : List ℕ) (t : ℕ) (list : List ℕ) (reason : Refusal)
+    (found : refusal_number reason ≡ end_reason base whether_sound w t list) where
+  pub finish_refused : served w (outcome (refused (refusal_number reason)) list []) ≡ finish base whether_sound w t list
   unfolding finish
-  finish_refused = said_no _ reason found w list _ applies
+  finish_refused = said_no _ (refusal_number reason) found w list _ (number_named reason)
 
-  pub cancel_refused : served w (outcome (refused reason) list []) ≡ cancel base whether_sound w t list
+  pub cancel_refused : served w (outcome (refused (refusal_number reason)) list []) ≡ cancel base whether_sound w t list
   unfolding cancel
-  cancel_refused = said_no _ reason found w list _ applies
+  cancel_refused = said_no _ (refusal_number reason) found w list _ (number_named reason)
 
 -- ---- Served
+
+pub accepts : (w : List ℕ) (t : ℕ) (list : List ℕ) → 0 ≡ end_reason base whether_sound w t list
+    → EndAccepted base w t list
+accepts w t list none = end_accepted base whether_sound w t list (sym none)
 
 module _ {w : List ℕ} {t : ℕ} {list : List ℕ} (accepted : EndAccepted base w t list) where
   abbrev s : Store
@@ -49,11 +55,7 @@ module _ {w : List ℕ} {t : ℕ} {list : List ℕ} (accepted : EndAccepted base
   statuses = (representable w accepted.sound.packed).statuses
 
   -- The sets that were found while the book was examined.
-  module _ {sound : Bool} {finished : ℕ} {sets : List ℕ} (examined : ((sound ≡ true) ↔ Sound base w)
-      × (sound ≡ true → Examined w finished sets)) where
-    found : Examined w finished sets
-    found = examined.1 (examined.0.1 accepted.sound)
-
+  module _ {finished : ℕ} {sets : List ℕ} (found : Examined w finished sets) where
     tracked : Tracked w sets finished
     tracked =
         record {

@@ -9,10 +9,10 @@ use mathlib.Core.Logic.Iff
 abbrev pub Depends : List ℕ → ℕ → Type 0
 Depends sets t = (u : ℕ) × EdgeIn sets t u
 
-pub nobody : (set found : ℕ) → found ≡ set → (eqb found 0 ≡ true) ↔ ((u : ℕ) → In set u → ⊥)
-nobody set found e =
-    let none = holds_empty (In set) found (λ u. subst (λ (x : ℕ). In found u ↔ In x u) e Iff.rfl) in
-    (λ z. none.0 (eqb-true found 0 z), λ empty. eq-eqb found 0 (none.1 empty))
+pub nobody : (set : ℕ) → (eqb set 0 ≡ true) ↔ ((u : ℕ) → In set u → ⊥)
+nobody set =
+    let none = holds_empty (In set) set (λ u. Iff.rfl) in
+    (λ z. none.0 (eqb-true set 0 z), λ empty. eq-eqb set 0 (none.1 empty))
 
 pub somebody : (set : ℕ) → (((u : ℕ) → In set u → ⊥) → ⊥) → (u : ℕ) × In set u
 somebody set some = some_member set (λ (e : set ≡ 0). some (λ u. nobody_in set u e))

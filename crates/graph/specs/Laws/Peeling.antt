@@ -15,9 +15,6 @@ module _ (Edge : ℕ → ℕ → Type 0) (finished : ℕ) where
     pub within : (t : ℕ) → In left t → In finished t
     pub out : (t : ℕ) → In finished t → (In left t → ⊥) → Leads Edge (In finished) t t → ⊥
 
-  pub peel_begun : Peeling finished
-  peel_begun = record { within = λ t m. m; out = λ t m other. absurd (other m) }
-
   module _ (left held : ℕ) (p : Peeling left) (kept : Holds held (Near (Reversed Edge) left left)) where
     -- One left out now leads to none left, so a cycle from it goes on through one left out before.
     off : (t : ℕ) → In finished t → In left t → (In held t → ⊥) → Leads Edge (In finished) t t → ⊥

@@ -12,9 +12,6 @@ module _ (P : ℕ → Type 0) (set : ℕ) where
     pub within : (t : ℕ) → In left t → In set t
     pub passed : (t : ℕ) → In set t → (In left t → ⊥) → P t
 
-  pub walk_begun : Walk set
-  walk_begun = record { within = λ t m. m; passed = λ t m out. absurd (out m) }
-
   pub walk_turned : (left next rest : ℕ) → Walk left → P next
       → Members rest (λ h. has left h && not (eqb h next)) → Walk rest
   walk_turned left next rest w p without =
@@ -28,10 +25,6 @@ module _ (P : ℕ → Type 0) (set : ℕ) where
 
   pub walk_ended : (left : ℕ) → Walk left → left ≡ 0 → (t : ℕ) → In set t → P t
   walk_ended left w none t m = w.passed t m (nobody_in left t none)
-
-  -- One that is not such.
-  pub walk_stopped : (left next : ℕ) → Walk left → In left next → (P next → ⊥) → ((t : ℕ) → In set t → P t) → ⊥
-  walk_stopped left next w m not_so all = not_so (all next (w.within next m))
 
 -- ---- A walk that collects what the members of a set contribute
 

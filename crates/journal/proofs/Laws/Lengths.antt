@@ -5,17 +5,17 @@ use Rattle.std.proofs.Common.{sym, ap, ◌∙◌, true≢false, arith, leb-true,
 use Rattle.std.proofs.Math.Bool.{and-eq-true_iff}
 use Rattle.std.proofs.Math.Option.{Option, none, some}
 use Rattle.operations.proofs.Laws.Cases.{split}
-use Rattle.journal.specs.Groups.{groups, grouped}
+use Rattle.journal.specs.Groups.{groups, grouped, narrow}
 use Rattle.journal.specs.Records.{arguments_of, is_batch, gives, operations_of, argument_numbers, ascending}
 use Rattle.journal.specs.Records.{Reply, nothing, wait, answered, ended, reply_numbers, arguments_fit, reply_fits}
-use Rattle.journal.specs.Records.{Record, bytes_of, fits}
+use Rattle.journal.specs.Records.{Record, numbers_of, bytes_of, shaped, fits}
 use Rattle.journal.proofs.Laws.Groups.{grouped_append, one_group, at_most_five}
 use Rattle.journal.proofs.Laws.Letters.{few_arguments, small_code, not_batch}
-use Rattle.journal.proofs.Laws.ReadBack.{batch_shape, plain_count, plain_numbers, Fitting, fitting}
+use Rattle.journal.proofs.Laws.ReadBack.{batch_shape, plain_count, plain_numbers}
 
 -- ---- Numbers
 
-abbrev size : List ℕ → ℕ
+abbrev pub size : List ℕ → ℕ
 size ns = length (grouped ns)
 
 size_more : (n : ℕ) (ns : List ℕ) → size (n ∷ ns) ≡ length (groups n) + size ns
@@ -119,17 +119,24 @@ bounded letter arguments (ended replyCode list) so fit =
       size_most list,
     )
 
--- A record has at most 488 bytes.
+-- The numbers of a shaped record have at most 487 bytes,
+pub numbers_length : (r : Record) → shaped r ≡ true
+    → size (argument_numbers r.letter r.arguments) + size (reply_numbers r.reply) ≤ 487
+numbers_length r shape =
+    let (argued, told) =
+    (and-eq-true_iff (arguments_fit r.letter r.arguments (arguments_of r.letter))
+    (reply_fits r.letter r.arguments r.reply)).0 shape in
+    bounded r.letter r.arguments r.reply (sized r.letter (arguments_of r.letter) r.arguments refl argued) told
+
+-- and a record that fits at most 488.
 pub record_length : (r : Record) → fits r ≡ true → length (bytes_of r) ≤ 488
-unfolding bytes_of
+unfolding bytes_of fits
 record_length r fit =
-    let so : Fitting r = fitting r fit in
     let asked : List ℕ = argument_numbers r.letter r.arguments in
     let said : List ℕ = reply_numbers r.reply in
-    let long = sized r.letter (arguments_of r.letter) r.arguments refl so.asked in
     omega (
       arith,
-      bounded r.letter r.arguments r.reply long so.replied,
+      numbers_length r ((and-eq-true_iff (shaped r) (narrow (numbers_of r))).0 fit).0,
       ap length (grouped_append asked said),
       length-append (grouped asked) (grouped said),
     )

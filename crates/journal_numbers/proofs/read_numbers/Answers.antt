@@ -1,31 +1,19 @@
--- `numbers::read_numbers`: the numbers that are there, before those that are left, are the whole.
-use native.Mathlib.Omega.{arith}
-use mathlib.Core.Path.{sym}
-use Rattle.journal_numbers.specs.Laws.Reads.{known}
-use Rattle.journal_numbers.specs.Laws.Lists.{collecting_starts, collecting_goes_on, collecting_stops}
-use Rattle.journal_numbers.specs.Laws.Lists.{collecting_ends, number_small}
+-- `read_numbers`: those that are there, before those that are left, are the whole.
+use Rattle.std.proofs.lemmas.Result.{err_from_is_err_and}
+use Rattle.journal_numbers.specs.Laws.Lists.{collecting_starts, collecting_goes_on, collecting_stops, collecting_ends}
 use Rattle.journal_numbers.proofs.read_numbers.Goals as goal
 
-pub loop-i-init : goal.loop-i-init
-loop-i-init c =
-    collecting_starts c.args.bytes.now c.args.into.now c.args.at c.args.there
-    c.args.more c.requires.0
+pub loop-number-init : goal.loop-number-init
+loop-number-init c = collecting_starts c.args.bytes.now c.args.into.now c.args.at c.requires
 
-pub returns-in_default : goal.returns-in_default
-returns-in_default c =
-    let told = c.in_default.is in
-    known (sym told)
-    (collecting_stops c.loop-i.invariant c.loop-i-test.true
-    (known told c.read_number-read.ensures))
+pub returns-in_err-value : goal.returns-in_err-value
+returns-in_err-value c =
+    let p = err_from_is_err_and c.from_residual.result c.from_residual.ensures.1 in
+    rw (p.1, p.2) (collecting_stops c.loop-number.invariant c.loop-number-test.true c.in_err-value.ensures)
 
-pub overflow_cast-into : goal.overflow_cast-into
-overflow_cast-into c =
-    omega (arith, number_small (known c.in-Is.is c.read_number-read.ensures))
-
-pub loop-i-preserved : goal.loop-i-preserved
-loop-i-preserved c =
-    collecting_goes_on c.loop-i.invariant c.loop-i-test.true c.requires.1
-    (known c.in-Is.is c.read_number-read.ensures)
+pub loop-number-preserved : goal.loop-number-preserved
+loop-number-preserved c =
+    collecting_goes_on c.loop-number.invariant c.loop-number-test.true c.in_ok-value.ensures
 
 pub returns : goal.returns
-returns c = collecting_ends c.loop-i.invariant c.loop-i-test.false
+returns c = collecting_ends c.loop-number.invariant c.loop-number-test.false

@@ -10,8 +10,8 @@ use Rattle.std.proofs.Math.ListN.{drop}
 use Rattle.operations.proofs.Laws.Cases.{split}
 use Rattle.journal.specs.Groups.{Read, found, bad, cut, long_form, width, higher, value, number_from, number}
 use Rattle.journal.specs.declared.Cause.TheVariants.{Cut, LongForm, Width}
-use Rattle.journal_numbers.specs.Parts.{Reads, itself}
-use Rattle.journal_numbers.specs.declared.Found.TheVariants.{Is, Bad}
+use Rattle.journal_numbers.specs.Parts.{Finds, Fails}
+use Rattle.journal_numbers.specs.Laws.Reads.{damage}
 
 -- The byte at a place, and those behind it.
 pub at_byte : (bytes : List ℕ) (at : ℕ) → at < length bytes → drop at bytes ≡ get_or bytes at 0 ∷ drop (at + 1) bytes
@@ -50,7 +50,7 @@ pub record Grouping (bytes : List ℕ) (at low scale i : ℕ) : Type 0 where
 
 -- A number of one group, of more, or none.
 module _ (bytes : List ℕ) (at : ℕ) where
-  pub no_group : at ≤ length bytes → length bytes ≤ at → Reads bytes at itself (Bad Cut at) (number (drop at bytes))
+  pub no_group : at ≤ length bytes → length bytes ≤ at → Fails bytes at (number (drop at bytes)) (damage Cut at)
   unfolding number
   no_group low high =
       record {
@@ -67,7 +67,7 @@ module _ (bytes : List ℕ) (at : ℕ) where
         ap (number_from (drop at bytes))
         (sym e ∙ ap (λ b. value 5 (b ∷ drop (at + 1) bytes)) there ∙ ap (value 5) (sym (at_byte bytes at more)))
 
-    pub one_group : first < 128 → Reads bytes at itself (Is first (at + 1)) (number (drop at bytes))
+    pub one_group : first < 128 → Finds bytes at (number (drop at bytes)) first (at + 1)
     one_group low =
         record {
           said =
@@ -95,7 +95,7 @@ module _ (bytes : List ℕ) (at low scale i : ℕ) (g : Grouping bytes at low sc
       → number_from (drop at bytes) (carried low scale r) ≡ number (drop at bytes)
   comes_to r e = ap (λ q. number_from (drop at bytes) (carried low scale q)) (sym e) ∙ g.whole
 
-  pub groups_end : 5 ≤ i → Reads bytes at itself (Bad Width at) (number (drop at bytes))
+  pub groups_end : 5 ≤ i → Fails bytes at (number (drop at bytes)) (damage Width at)
   groups_end past =
       let none : 5 - i ≡ 0 = omega arith in
       record {
@@ -108,7 +108,7 @@ module _ (bytes : List ℕ) (at low scale i : ℕ) (g : Grouping bytes at low sc
     one_more : 5 - i ≡ suc (5 - (i + 1))
     one_more = omega arith
 
-    pub groups_cut : length bytes ≤ at + i → Reads bytes at itself (Bad Cut at) (number (drop at bytes))
+    pub groups_cut : length bytes ≤ at + i → Fails bytes at (number (drop at bytes)) (damage Cut at)
     groups_cut past =
         record {
           said = comes_to (bad cut []) (rw (one_more, drop_of_length-le bytes past));
@@ -138,7 +138,7 @@ module _ (bytes : List ℕ) (at low scale i : ℕ) (g : Grouping bytes at low sc
           ≡ number (drop at bytes)
       last_group l = group_first (found group (drop (at + i + 1) bytes)) (rw (lt-ltb group 128 l))
 
-      pub long_form_lem : group < 128 → group ≡ 0 → Reads bytes at itself (Bad LongForm at) (number (drop at bytes))
+      pub long_form_lem : group < 128 → group ≡ 0 → Fails bytes at (number (drop at bytes)) (damage LongForm at)
       long_form_lem l none =
           record {
             said = rw (eq-eqb group 0 none) at (last_group l);
@@ -152,7 +152,7 @@ module _ (bytes : List ℕ) (at low scale i : ℕ) (g : Grouping bytes at low sc
         ends_in = rw (ne_eqb group 0 some) at (last_group last)
 
         pub too_wide : 4_294_967_295 < low + scale * group
-            → Reads bytes at itself (Bad Width at) (number (drop at bytes))
+            → Fails bytes at (number (drop at bytes)) (damage Width at)
         too_wide l =
             record {
               said = rw (le-ltb (low + scale * group) 4_294_967_296 (omega arith)) at ends_in;
@@ -160,11 +160,11 @@ module _ (bytes : List ℕ) (at low scale i : ℕ) (g : Grouping bytes at low sc
               within = omega arith;
             }
 
-        pub number_is : low + scale * group ≤ 4_294_967_295
-            → Reads bytes at itself (Is (low + scale * group) (at + i + 1)) (number (drop at bytes))
-        number_is l =
+        pub number_is : (n : ℕ) → n ≡ low + scale * group → n < 4_294_967_296
+            → Finds bytes at (number (drop at bytes)) n (at + i + 1)
+        number_is n same l =
             record {
-              said = rw (lt-ltb (low + scale * group) 4_294_967_296 (omega arith)) at ends_in;
+              said = rw same (rw (lt-ltb (low + scale * group) 4_294_967_296 (omega arith)) at ends_in);
               onward = omega arith;
               within = omega arith;
             }

@@ -1,14 +1,17 @@
 -- What is read behind what was read; and a count.
 use Rattle.std.specs.Prelude.{ℕ, ◌≤◌, ◌<◌, ◌≡◌, refl, cond, List, leb, drop}
-use Rattle.std.proofs.Common.{le_refl, arith, sym, ap, subst, ◌∙◌, le-leb}
+use Rattle.std.proofs.Common.{le_refl, arith, ap, ◌∙◌, le-leb}
+use Rattle.std.proofs.Math.Path.{subst⁻¹}
 use Rattle.std.proofs.lemmas.Bool.{lt-leb}
 use Rattle.journal.specs.Groups.{Read, found, bad, then, number}
 use Rattle.journal.specs.Reading.{count}
 use Rattle.journal.specs.Coded.{cause_of}
 use Rattle.journal.specs.declared.Cause.{Cause}
-use Rattle.journal_numbers.specs.Parts.{part_said, Reads, itself}
-use Rattle.journal_numbers.specs.declared.Found.{Found}
-use Rattle.journal_numbers.specs.declared.Found.TheVariants.{Is, Bad}
+use Rattle.journal.specs.declared.Damage.{Damage}
+use Rattle.journal_numbers.specs.Parts.{Finds, Fails}
+
+abbrev pub damage : Cause → ℕ → Damage
+damage cause place = record { cause = cause; place = place }
 
 -- Three things behind each other.
 pub then_then : {A B C : Type 0} (read : Read A) (more : A → List ℕ → Read B) (last : B → List ℕ → Read C)
@@ -16,61 +19,45 @@ pub then_then : {A B C : Type 0} (read : Read A) (more : A → List ℕ → Read
 then_then (found x rest) more last = refl
 then_then (bad cause rest) more last = refl
 
--- Which answer it is.
-pub known : {A : Type 0} {bytes : List ℕ} {at : ℕ} {f : ℕ → A} {r q : Found} {what : Read A}
-    → r ≡ q → Reads bytes at f r what → Reads bytes at f q what
-known {bytes = bytes} {at = at} {f = f} {what = what} e reads = subst (λ x. Reads bytes at f x what) e reads
+module _ {A : Type 0} {bytes : List ℕ} {at : ℕ} {what : Read A} where
+  -- Which damage it is.
+  pub failed : {d e : Damage} → d ≡ e → Fails bytes at what e → Fails bytes at what d
+  failed {d} {e} same fails = subst⁻¹ (λ (x : Damage). Fails bytes at what x) same fails
 
--- From a place before it.
-pub earlier : {A : Type 0} {bytes : List ℕ} {at : ℕ} (before : ℕ) {f : ℕ → A} {r : Found} {what : Read A}
-    → before ≤ at → Reads bytes at f r what → Reads bytes before f r what
-earlier before l reads =
-    record { said = reads.said; onward = omega (arith, reads.onward); within = reads.within }
+  module _ {B : Type 0} (more : A → List ℕ → Read B) where
+    -- Nothing is read behind what cannot be.
+    pub stops : {d : Damage} → Fails bytes at what d → Fails bytes at (then what more) d
+    stops fails =
+        record { said = ap (λ x. then x more) fails.said; onward = fails.onward; within = fails.within }
 
--- What it says, told otherwise.
-pub instead : {A : Type 0} {bytes : List ℕ} {at : ℕ} {f : ℕ → A} {r : Found} {what that : Read A}
-    → what ≡ that → Reads bytes at f r what → Reads bytes at f r that
-instead e reads = record { said = reads.said ∙ e; onward = reads.onward; within = reads.within }
+    module _ {value : A} {behind : ℕ} (first : Finds bytes at what value behind) where
+      pub goes_on : {next : B} {end : ℕ} → Finds bytes behind (more value (drop behind bytes)) next end
+          → Finds bytes at (then what more) next end
+      goes_on second =
+          record {
+            said = second.said ∙ ap (λ x. then x more) first.said;
+            onward = omega (arith, first.onward, second.onward);
+            within = second.within;
+          }
 
-module _ {A : Type 0} {f g : ℕ → A} (same : (n : ℕ) → f n ≡ g n) where
-  said_alike : (bytes : List ℕ) (r : Found) → part_said g bytes r ≡ part_said f bytes r
-  said_alike bytes (Is n end) = ap (λ x. found x (drop end bytes)) (sym (same n))
-  said_alike bytes (Bad cause stop) = refl
-
-  pub alike : {bytes : List ℕ} {at : ℕ} {r : Found} {what : Read A} → Reads bytes at f r what
-      → Reads bytes at g r what
-  alike {bytes} {at} {r} reads =
-      record { said = said_alike bytes r ∙ reads.said; onward = reads.onward; within = reads.within }
-
-module _ {A B : Type 0} {bytes : List ℕ} {at : ℕ} {f : ℕ → A} {read : Read A} (g : ℕ → B)
-    (more : A → List ℕ → Read B) where
-  -- Nothing is read behind what cannot be.
-  pub stops : {cause : Cause} {stop : ℕ} → Reads bytes at f (Bad cause stop) read
-      → Reads bytes at g (Bad cause stop) (then read more)
-  stops first = record { said = ap (λ x. then x more) first.said; onward = first.onward; within = first.within }
-
-  pub passed_on : {r : Found} {cause : Cause} {stop : ℕ} → r ≡ Bad cause stop → Reads bytes at f r read
-      → Reads bytes at g r (then read more)
-  passed_on told first = known (sym told) (stops (known told first))
-
-  pub goes_on : {n end : ℕ} {r : Found} → Reads bytes at f (Is n end) read
-      → Reads bytes end g r (more (f n) (drop end bytes)) → Reads bytes at g r (then read more)
-  goes_on first next =
-      record {
-        said = next.said ∙ ap (λ x. then x more) first.said;
-        onward = omega (arith, first.onward, next.onward);
-        within = next.within;
-      }
+      pub stops_behind : {d : Damage} → Fails bytes behind (more value (drop behind bytes)) d
+          → Fails bytes at (then what more) d
+      stops_behind fails =
+          record {
+            said = fails.said ∙ ap (λ x. then x more) first.said;
+            onward = omega (arith, first.onward, fails.onward);
+            within = fails.within;
+          }
 
 -- A count that is not past its limit, and one that is.
 module _ {bytes : List ℕ} {at n end : ℕ} (most : ℕ) (past : Cause)
-    (first : Reads bytes at itself (Is n end) (number (drop at bytes))) where
-  pub counted : n ≤ most → Reads bytes at itself (Is n end) (count most (cause_of past) (drop at bytes))
+    (first : Finds bytes at (number (drop at bytes)) n end) where
+  pub counted : n ≤ most → Finds bytes at (count most (cause_of past) (drop at bytes)) n end
   counted l =
-      goes_on itself _ first
+      goes_on _ first
       record { said = rw (le-leb n most l); onward = le_refl end; within = first.within }
 
-  pub past_limit : most < n → Reads bytes at itself (Bad past at) (count most (cause_of past) (drop at bytes))
+  pub past_limit : most < n → Fails bytes at (count most (cause_of past) (drop at bytes)) (damage past at)
   past_limit l =
       record {
         said =

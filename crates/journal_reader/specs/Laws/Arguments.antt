@@ -1,107 +1,113 @@
--- Arguments: the numbers behind a letter, and a batch's operations behind them.
-use Rattle.std.specs.Prelude.{ℕ, ◌+◌, ◌*◌, ◌-◌, ◌/◌, ◌≤◌, ◌≡◌, refl, Bool, true, false, cond, List, [], ◌++◌, drop}
-use Rattle.std.proofs.Common.{le_refl, arith, sym, ap, subst, ◌∙◌, eq-eqb, ne_eqb}
-use Rattle.std.proofs.Math.Option.{some}
-use Rattle.journal.specs.Groups.{Read, found, then, batch, numbers}
+-- A batch's arguments: its transaction, and its operations behind their count.
+use Rattle.std.specs.Prelude.{ℕ, ◌+◌, ◌*◌, ◌-◌, ◌/◌, ◌≤◌, ◌<◌, ◌≡◌, refl, cond, List, ◌∷◌, ◌++◌, length, get_or, take}
+use Rattle.std.specs.Prelude.{drop}
+use Rattle.std.proofs.Common.{le_refl, sym, ap, ap₂, ◌∙◌, arith, length-append}
+use Rattle.std.proofs.Math.Path.{subst}
+use Rattle.std.proofs.Math.Option.{none, some}
+use Rattle.std.proofs.Math.Seq.{take-append_seam}
+use Rattle.std.proofs.lemmas.Slice.{take-put_mid}
+use borrow.Rule.Slice.PartMut.{put_mid}
+use Rattle.journal.specs.Groups as groups
+use Rattle.journal.specs.Groups.{Read, found, bad, then, batch, numbers}
 use Rattle.journal.specs.Records.{arguments_of, is_batch, operations_of}
 use Rattle.journal.specs.Reading.{count, operations_in, arguments_in}
-use Rattle.journal.specs.Coded.{front, argument_count, cause_of}
-use Rattle.journal.specs.declared.Cause.{Cause}
-use Rattle.journal.specs.declared.Cause.TheVariants.{Batch}
-use Rattle.journal_numbers.specs.Parts.{Reads, itself, after}
-use Rattle.journal_reader.specs.Laws.Lengths.{numbers_length, letter_few, batch_one, Counted, arguments_counted}
-use Rattle.journal_numbers.specs.Laws.Lists.{after_none}
-use Rattle.journal.proofs.Laws.Fronts.{length_front}
-use Rattle.journal_numbers.specs.Laws.Reads.{then_then, instead, stops, goes_on}
-use Rattle.journal_numbers.specs.declared.Found.{Found}
-use Rattle.journal_numbers.specs.declared.Found.TheVariants.{Is, Bad}
+use Rattle.journal.specs.Coded.{front, argument_count}
+use Rattle.journal.specs.declared.Cause.TheVariants.{Letter}
+use Rattle.journal.specs.declared.Damage.{Damage}
+use Rattle.journal.proofs.Laws.Fronts.{front_first_taken}
+use Rattle.journal_numbers.specs.Parts.{Finds, Fails}
+use Rattle.journal_numbers.specs.Laws.Numbers.{at_byte}
+use Rattle.journal_numbers.specs.Laws.Reads.{damage, goes_on, stops, stops_behind}
 
--- ---- Reading them
+-- No call has that letter.
+pub no_letter : (bytes : List ℕ) (at letter : ℕ) → at < length bytes → letter ≡ get_or bytes at 0
+    → none ≡ arguments_of letter
+    → Fails bytes at (arguments_in letter (arguments_of letter) (drop (at + 1) bytes)) (damage Letter at)
+no_letter bytes at letter inside is none_is =
+    record {
+      said =
+          ap (λ l. bad groups.letter l) (at_byte bytes at inside ∙ ap (λ b. b ∷ drop (at + 1) bytes) (sym is))
+          ∙ ap (λ q. arguments_in letter q (drop (at + 1) bytes)) none_is;
+      onward = le_refl at;
+      within = omega arith;
+    }
 
-abbrev words : ℕ → List ℕ → Read (List ℕ)
-words n rest = numbers (4 * n) rest
+module _ (letter at n m : ℕ) {bytes first : List ℕ} {start : ℕ} (is : letter ≡ 71)
+    (has : some n ≡ arguments_of letter) (same : m ≡ n)
+    (read : Finds bytes (at + 1) (numbers m (drop (at + 1) bytes)) first start) where
+  batch_in : arguments_in letter (arguments_of letter) (drop (at + 1) bytes)
+      ≡ arguments_in 71 (some n) (drop (at + 1) bytes)
+  batch_in = ap₂ (λ l q. arguments_in l q (drop (at + 1) bytes)) is (sym has)
 
-abbrev behind_list : List ℕ → List ℕ → List ℕ → Read (List ℕ)
-behind_list old more rest = found (old ++ more) rest
+  first_read : Finds bytes (at + 1) (numbers n (drop (at + 1) bytes)) first start
+  first_read = subst (λ k. Finds bytes (at + 1) (numbers k (drop (at + 1) bytes)) first start) same read
 
--- A batch's operations stand behind its transaction.
-module _ {bytes : List ℕ} {at : ℕ} (old array : List ℕ) where
-  pub operations_read : {n end : ℕ} {r : Found}
-      → Reads bytes at itself (Is n end) (count 16 (cause_of Batch) (drop at bytes))
-      → Reads bytes end (λ m. front m array) r (after (front 1 old) (numbers (4 * n) (drop end bytes)))
-      → Reads bytes at (λ m. front m array) r (after (front 1 old) (operations_in (drop at bytes)))
-  operations_read counted more =
-      instead (then_then (count 16 batch (drop at bytes)) words (behind_list (front 1 old)))
-      (goes_on (λ m. front m array) (λ m rest. then (words m rest) (behind_list (front 1 old))) counted more)
+  module _ {operations behind : ℕ} (k : ℕ) (words : k ≡ 4 * operations)
+      (counted : Finds bytes start (count 16 batch (drop start bytes)) operations behind) where
+    pub batch_read : {more : List ℕ} {end : ℕ} (value : List ℕ) → value ≡ first ++ more
+        → Finds bytes behind (numbers k (drop behind bytes)) more end
+        → Finds bytes at (arguments_in letter (arguments_of letter) (drop (at + 1) bytes)) value end
+    batch_read {more} {end} value e read_words =
+        let other = subst (λ l. Finds bytes behind (numbers l (drop behind bytes)) more end) words read_words in
+        let all = goes_on (λ l rest. numbers (4 * l) rest) counted other in
+        let last : Finds bytes start (then (operations_in (drop start bytes)) (λ o left. found (first ++ o) left))
+        (first ++ more) end =
+        goes_on (λ o left. found (first ++ o) left) all
+        (record { said = refl; onward = le_refl end; within = all.within }) in
+        record {
+          said =
+              ap (λ v. found v (drop end bytes)) e ∙ last.said
+              ∙ ap (λ r. then r (λ arguments rest. then (operations_in rest) (λ o left. found (arguments ++ o) left)))
+              first_read.said
+              ∙ sym batch_in;
+          onward = omega (arith, read.onward, last.onward);
+          within = last.within;
+        }
 
-  pub operations_stop : {cause : Cause} {stop : ℕ}
-      → Reads bytes at itself (Bad cause stop) (count 16 (cause_of Batch) (drop at bytes))
-      → Reads bytes at (λ m. front m array) (Bad cause stop) (after (front 1 old) (operations_in (drop at bytes)))
-  operations_stop counted =
-      instead (then_then (count 16 batch (drop at bytes)) words (behind_list (front 1 old)))
-      (stops (λ m. front m array) (λ m rest. then (words m rest) (behind_list (front 1 old))) counted)
+    pub batch_stops : {d : Damage} → Fails bytes behind (numbers k (drop behind bytes)) d
+        → Fails bytes at (arguments_in letter (arguments_of letter) (drop (at + 1) bytes)) d
+    batch_stops {d} fails =
+        let other = subst (λ l. Fails bytes behind (numbers l (drop behind bytes)) d) words fails in
+        let last = stops (λ o left. found (first ++ o) left)
+        (stops_behind (λ l rest. numbers (4 * l) rest) counted other) in
+        record {
+          said =
+              last.said
+              ∙ ap (λ r. then r (λ arguments rest. then (operations_in rest) (λ o left. found (arguments ++ o) left)))
+              first_read.said
+              ∙ sym batch_in;
+          onward = omega (arith, read.onward, last.onward);
+          within = last.within;
+        }
 
-abbrev with_operations : ℕ → List ℕ → List ℕ → Read (List ℕ)
-with_operations letter arguments rest =
-    cond (is_batch letter) (then (operations_in rest) (behind_list arguments)) (found arguments rest)
+-- ---- The array
 
-module _ {bytes : List ℕ} {at : ℕ} (letter n : ℕ) (array : List ℕ) where
-  -- The numbers behind a letter.
-  first_numbers : {r : Found} → Reads bytes at (λ m. front m array) r (after [] (numbers n (drop at bytes)))
-      → Reads bytes at (λ m. front m array) r (numbers n (drop at bytes))
-  first_numbers = instead (after_none (numbers n (drop at bytes)))
+one : (n : ℕ) → some n ≡ arguments_of 71 → n ≡ 1
+one n has = let equal : 1 ≡ n = cc in sym equal
 
-  pub arguments_stop : {cause : Cause} {stop : ℕ} (new : List ℕ)
-      → Reads bytes at (λ m. front m array) (Bad cause stop) (after [] (numbers n (drop at bytes)))
-      → Reads bytes at (λ m. front m new) (Bad cause stop) (arguments_in letter (some n) (drop at bytes))
-  arguments_stop new read = stops (λ m. front m new) (with_operations letter) (first_numbers read)
+module _ (letter n operations : ℕ) (first more : List ℕ) (is : letter ≡ 71) (has : some n ≡ arguments_of letter)
+    (length_first : length first ≡ n) (length_more : length more ≡ 4 * operations) where
+  alone : length first ≡ 1
+  alone = length_first ∙ one n (subst (λ l. some n ≡ arguments_of l) is has)
 
-  module _ {there end : ℕ}
-      (read : Reads bytes at (λ m. front m array) (Is there end) (after [] (numbers n (drop at bytes)))) where
-    pub arguments_whole : (letter ≡ 71 → ⊥)
-        → Reads bytes at (λ m. front m array) (Is there end) (arguments_in letter (some n) (drop at bytes))
-    arguments_whole other =
-        goes_on (λ m. front m array) (with_operations letter) (first_numbers read)
-        record { said = rw (ne_eqb letter 71 other); onward = le_refl end; within = read.within }
+  pub batch_front : (post : List ℕ) → length (put_mid 1 (1 + 4 * operations - 1) (first ++ post) more) ≡ 65
+      → operations ≤ 16
+      → front (argument_count letter operations) (put_mid 1 (1 + 4 * operations - 1) (first ++ post) more)
+      ≡ first ++ more
+  batch_front post long few =
+      let all : length (first ++ more) ≡ 1 + 4 * operations = omega (arith, length-append first more, alone) in
+      let taken : take (1 + 4 * operations) (put_mid 1 (1 + 4 * operations - 1) (first ++ post) more) ≡ first ++ more =
+      take-put_mid 1 (1 + 4 * operations - 1) (first ++ post) more (1 + 4 * operations) (omega arith)
+      (omega (arith, length-append first post, alone))
+      ∙ ap (λ l. l ++ more) (ap (λ k. take k (first ++ post)) (sym alone) ∙ take-append_seam first post) in
+      let count : argument_count letter operations ≡ length (first ++ more) =
+      ap (λ l. argument_count l operations) is ∙ sym all in
+      ap (λ k. front k (put_mid 1 (1 + 4 * operations - 1) (first ++ post) more)) count
+      ∙ front_first_taken (1 + 4 * operations) (first ++ more) _ (omega arith) taken
 
-    pub arguments_more : letter ≡ 71 → arguments_of letter ≡ some n → (new : List ℕ) {r : Found}
-        → Reads bytes end (λ m. front m new) r (after (front 1 array) (operations_in (drop end bytes)))
-        → Reads bytes at (λ m. front m new) r (arguments_in letter (some n) (drop at bytes))
-    arguments_more grouped has new more =
-        let is-batch : is_batch letter ≡ true = eq-eqb letter 71 grouped in
-        let one : 1 ≡ there =
-        sym (batch_one letter n is-batch has)
-        ∙ sym (numbers_length n (drop at bytes) (first_numbers read).said) ∙ length_front there array in
-        goes_on (λ m. front m new) (with_operations letter) (first_numbers read)
-        (rw is-batch (rw one at more))
-
--- ---- Operations
-
--- One operation, unless it is a batch.
-pub one_unless : (batch : Bool) (n operations : ℕ) → operations ≡ cond batch n 1 → cond batch operations 1 ≡ operations
-one_unless true n operations e = refl
-one_unless false n operations e = sym e
-
--- Arguments that were read are as many as their operations say.
-module _ (bytes : List ℕ) (at letter n : ℕ) (has : arguments_of letter ≡ some n) (arguments : List ℕ) {there behind : ℕ}
-    (read : Reads bytes at (λ m. front m arguments) (Is there behind) (arguments_in letter (some n) (drop at bytes)))
-  where
-    counted : Counted letter (front there arguments)
-    counted = arguments_counted letter n (drop at bytes) has (front there arguments) (drop behind bytes) read.said
-
-    pub some_there : 1 ≤ there
-    some_there =
-        let first : argument_count letter (operations_of letter (front there arguments))
-        ≡ n + cond (is_batch letter) (4 * operations_of letter (front there arguments)) 0 = rw has in
-        omega (arith, letter_few letter n has, length_front there arguments, counted.length_is, first)
-
-    module _ (operations : ℕ) (so : operations ≡ cond (is_batch letter) ((there - 1) / 4) 1) where
-      pub operations_are : operations_of letter (front there arguments) ≡ operations
-      operations_are = ap (λ m. cond (is_batch letter) ((m - 1) / 4) 1) (length_front there arguments) ∙ sym so
-
-      pub operations_within : operations ≤ 16
-      operations_within = subst (λ m. m ≤ 16) operations_are counted.operations_few
-
-      pub all_there : argument_count letter operations ≡ there
-      all_there =
-          ap (argument_count letter) (sym operations_are) ∙ sym counted.length_is ∙ length_front there arguments
+  pub batch_operations : (value : List ℕ) → value ≡ first ++ more → operations ≡ operations_of letter value
+  batch_operations value e =
+      let all : length (first ++ more) ≡ 1 + 4 * operations = omega (arith, length-append first more, alone) in
+      let many : operations ≡ (length (first ++ more) - 1) / 4 = omega arith in
+      many ∙ ap (λ l. (length l - 1) / 4) (sym e)
+      ∙ sym (ap (λ l. cond (is_batch l) ((length value - 1) / 4) 1) is)

@@ -1,17 +1,14 @@
 -- Records counted one by one: those that were read, and those that are left, are all.
 use Rattle.std.specs.Prelude.{ℕ, suc, ◌+◌, ◌-◌, ◌≤◌, ◌<◌, ◌≡◌, refl, List, [], ◌∷◌, length, drop}
-use Rattle.std.proofs.Common.{arith, sym, ap, subst, ◌∙◌, drop_of_length-le}
+use Rattle.std.proofs.Common.{arith, sym, ap, ◌∙◌, drop_of_length-le}
 use Rattle.journal.specs.Groups.{Read, found, bad, then}
 use Rattle.journal.specs.Records.{Record}
 use Rattle.journal.specs.Reading.{record_in, step_of, continued, records_within, records_in}
-use Rattle.journal.specs.declared.Cause.{Cause}
-use Rattle.journal_reader.specs.Said.{count_said, count_of}
-use Rattle.journal_reader.specs.Parts.{Onward, Scans}
-use Rattle.journal_numbers.specs.Laws.Reads.{known}
+use Rattle.journal.specs.Coded.{cause_of}
+use Rattle.journal.specs.declared.Damage.{Damage}
+use Rattle.journal_numbers.specs.Parts.{Finds, Fails}
+use Rattle.journal_reader.specs.Said.{count_of}
 use Rattle.journal_reader.specs.Laws.Records.{step_record}
-use Rattle.journal_numbers.specs.declared.Found.TheVariants.{Is, Bad}
-use Rattle.journal_reader.specs.declared.Scanned.{Scanned}
-use Rattle.journal_reader.specs.declared.Count.TheVariants as counts
 
 -- So many more.
 abbrev more : ℕ → Read ℕ → Read ℕ
@@ -44,37 +41,34 @@ counting_starts bytes =
       whole = rw all (more_none (count_of (records_within (suc (length bytes)) bytes)));
     }
 
--- Where a record was scanned.
-module _ {bytes : List ℕ} {at : ℕ} {arguments array : List ℕ} {r : Scanned} (s : Scans bytes at arguments array r) where
-  pub onward_to : {n end : ℕ} → r.read ≡ Is n end → (at < end) × (end ≤ length bytes)
-  onward_to e = (subst (λ x. Onward at x) e s.onward, (known e s.reads).within)
+-- Where a record was read.
+module _ {bytes : List ℕ} {count at : ℕ} (c : Counting bytes count at) (inside : at < length bytes) where
+  from_record : (x : Read Record) → x ≡ record_in (drop at bytes)
+      → more count (count_of (continued (step_of x) (λ rest. records_within (length bytes + 1 - (count + 1)) rest)))
+      ≡ count_of (records_in bytes)
+  from_record x e =
+      let left : length bytes + 1 - count ≡ suc (length bytes + 1 - (count + 1)) = omega (arith, c.few, c.within) in
+      ap (λ y. more count (count_of (continued y (λ rest. records_within (length bytes + 1 - (count + 1)) rest))))
+      (ap step_of e ∙ step_record bytes at inside)
+      ∙ rw left at c.whole
 
-  module _ {count : ℕ} (c : Counting bytes count at) (inside : at < length bytes) where
-    from_record : (x : Read Record) → x ≡ record_in (drop at bytes)
-        → more count (count_of (continued (step_of x) (λ rest. records_within (length bytes + 1 - (count + 1)) rest)))
-        ≡ count_of (records_in bytes)
-    from_record x e =
-        let left : length bytes + 1 - count ≡ suc (length bytes + 1 - (count + 1)) = omega (arith, c.few, c.within) in
-        ap (λ y. more count (count_of (continued y (λ rest. records_within (length bytes + 1 - (count + 1)) rest))))
-        (ap step_of e ∙ step_record bytes at inside)
-        ∙ rw left at c.whole
+  pub counting_goes_on : {r : Record} {end : ℕ} → at < end → Finds bytes at (record_in (drop at bytes)) r end
+      → Counting bytes (count + 1) end
+  counting_goes_on {r} {end} onward finds =
+      record {
+        few = omega (arith, c.few);
+        within = finds.within;
+        whole =
+            sym (one_more count _ (records_within (length bytes + 1 - (count + 1)) (drop end bytes)))
+            ∙ from_record _ finds.said;
+      }
 
-    pub counting_goes_on : {n end : ℕ} → r.read ≡ Is n end → Counting bytes (count + 1) end
-    counting_goes_on {n} {end} e =
-        record {
-          few = omega (arith, c.few, (onward_to e).0);
-          within = (onward_to e).1;
-          whole =
-              sym (one_more count _ (records_within (length bytes + 1 - (count + 1)) (drop end bytes)))
-              ∙ from_record _ (known e s.reads).said;
-        }
-
-    pub counting_stops : {cause : Cause} {stop : ℕ} → r.read ≡ Bad cause stop
-        → (count_said bytes (counts.Bad cause stop) ≡ count_of (records_in bytes)) × (stop ≤ length bytes)
-    counting_stops e = (from_record _ (known e s.reads).said, (known e s.reads).within)
+  pub counting_stops : {d : Damage} → Fails bytes at (record_in (drop at bytes)) d
+      → bad (cause_of d.cause) (drop d.place bytes) ≡ count_of (records_in bytes)
+  counting_stops fails = from_record _ fails.said
 
 pub counting_ends : {bytes : List ℕ} {count at : ℕ} → Counting bytes count at → length bytes ≤ at
-    → count_said bytes (counts.Records count) ≡ count_of (records_in bytes)
+    → found count [] ≡ count_of (records_in bytes)
 counting_ends {bytes} {count} {at} c past =
     let left : length bytes + 1 - count ≡ suc (length bytes - count) = omega (arith, c.few, c.within) in
     ap (λ n. found n []) (omega arith) ∙ rw (left, drop_of_length-le bytes past) at c.whole

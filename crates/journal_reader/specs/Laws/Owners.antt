@@ -13,12 +13,11 @@ use Rattle.bitset.specs.Bitset.{has, Members, in_front, members_from, members}
 use Rattle.bitset.specs.Laws.{no_member}
 use Rattle.journal.specs.Groups.{Read, found, bad, then, owners, number}
 use Rattle.journal.specs.Reading.{owners_from}
-use Rattle.journal.specs.Coded.{cause_of}
-use Rattle.journal.specs.declared.Cause.{Cause}
 use Rattle.journal.specs.declared.Cause.TheVariants.{Owners}
-use Rattle.journal_numbers.specs.Parts.{Reads, itself, after}
-use Rattle.journal_numbers.specs.Laws.Lists.{after_none, after_more}
-use Rattle.journal_numbers.specs.declared.Found.TheVariants.{Is, Bad}
+use Rattle.journal.specs.declared.Damage.{Damage}
+use Rattle.journal_numbers.specs.Parts.{Finds, Fails}
+use Rattle.journal_numbers.specs.Laws.Lists.{after, after_none, after_more}
+use Rattle.journal_numbers.specs.Laws.Reads.{damage}
 
 -- ---- A member above all others
 
@@ -94,7 +93,7 @@ module _ {bytes : List ℕ} {at count set least place i : ℕ} (g : Gathering by
   abbrev Answer : Read (List ℕ)
   Answer = owners_from count 0 (drop at bytes)
 
-  pub gathering_ends : count ≤ i → Reads bytes at members (Is set place) Answer
+  pub gathering_ends : count ≤ i → Finds bytes at Answer (members set) place
   gathering_ends past =
       let none : count - i ≡ 0 = omega arith in
       record {
@@ -117,21 +116,19 @@ module _ {bytes : List ℕ} {at count set least place i : ℕ} (g : Gathering by
         let one_more : count - i ≡ suc (count - (i + 1)) = omega arith in
         ap (λ q. after (members set) (then q from_next)) e ∙ rw one_more at g.whole
 
-    pub gathering_stops : {cause : Cause} {stop : ℕ}
-        → Reads bytes place itself (Bad cause stop) (number (drop place bytes))
-        → Reads bytes at members (Bad cause stop) Answer
-    gathering_stops {cause} {stop} r =
+    pub gathering_stops : {d : Damage} → Fails bytes place (number (drop place bytes)) d → Fails bytes at Answer d
+    gathering_stops r =
         record {
-          said = next_first (bad (cause_of cause) (drop stop bytes)) r.said;
+          said = next_first _ r.said;
           onward = omega (arith, g.onward, r.onward);
           within = r.within;
         }
 
-    module _ {owner end : ℕ} (r : Reads bytes place itself (Is owner end) (number (drop place bytes))) where
+    module _ {owner end : ℕ} (r : Finds bytes place (number (drop place bytes)) owner end) where
       owner_first : after (members set) (from_next owner (drop end bytes)) ≡ Answer
       owner_first = next_first (found owner (drop end bytes)) r.said
 
-      pub no_owner : rightly least owner ≡ false → Reads bytes at members (Bad Owners place) Answer
+      pub no_owner : rightly least owner ≡ false → Fails bytes at Answer (damage Owners place)
       unfolding from_next
       no_owner e =
           record {

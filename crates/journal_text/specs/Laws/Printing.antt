@@ -1,5 +1,6 @@
 -- Records read one by one, and their lines put one after the other.
-use Rattle.std.specs.Prelude.{ℕ, ◌+◌, ◌-◌, ◌≤◌, ◌<◌, ◌≡◌, true, List, [], ◌∷◌, ◌++◌, length, get_or, drop}
+use Rattle.std.specs.Prelude.{Option, Some, Result, Ok}
+use Rattle.std.specs.Prelude.{ℕ, ◌+◌, ◌≤◌, ◌<◌, ◌≡◌, true, List, [], ◌∷◌, ◌++◌, length, get_or, drop}
 use Rattle.std.proofs.Common.{arith, sym, ap, subst, ◌∙◌, append_assoc, append-nil, length-append, length-drop}
 use Rattle.std.proofs.Common.{get_or-drop}
 use Rattle.store.proofs.Laws.Lists.{tabulate_get_d, all_of}
@@ -13,13 +14,11 @@ use Rattle.journal.specs.Coded.{record_of}
 use Rattle.journal.proofs.Laws.Groups.{Bytes}
 use Rattle.journal.proofs.Laws.Accepted.{RecordRead, record_written}
 use Rattle.journal.proofs.Laws.Files.{some_bytes}
-use Rattle.journal.specs.declared.Cause.{Cause}
-use Rattle.journal_reader.specs.Said.{step_said, place_of, reading_said}
-use Rattle.journal_reader.specs.declared.Place.{Place}
-use Rattle.journal_reader.specs.declared.Place.TheVariants.{Behind, End, Bad}
-use Rattle.journal_reader.specs.declared.Reading.{Reading}
+use Rattle.journal.specs.declared.Record.{Record as Content}
+use Rattle.journal.specs.declared.Damage.{Damage}
+use Rattle.journal_reader.specs.Said.{reading_said, place_of}
 use Rattle.listing.specs.Listing.{record_line, most_line}
-use Rattle.journal_text.specs.Listed.{ReadOff, here, more, lines_of, Stands, Listing}
+use Rattle.journal_text.specs.Listed.{ReadOff, here, more, lines_of}
 
 -- ---- Lines of records
 
@@ -95,18 +94,16 @@ stood bytes at behind r small e within =
       within = within;
     }
 
-module _ (bytes : List ℕ) (at : ℕ) (reading : Reading) (said : reading_said bytes reading ≡ step (drop at bytes)) where
-  step_is : (place : Place) → reading.place ≡ place
-      → step (drop at bytes) ≡ step_said bytes place (record_of reading.content)
-  step_is place e = sym said ∙ ap (λ p. step_said bytes p (record_of reading.content)) e
+-- Where the reader has read a record.
+pub record_stands : (bytes : List ℕ) (at : ℕ) (told : Content × ℕ) (reading : Result (Option (Content × ℕ)) Damage)
+    → reading_said bytes reading ≡ step (drop at bytes) → place_of reading ≤ length bytes
+    → ((i : ℕ) → get_or bytes i 0 < 256) → reading ≡ Ok (Some told)
+    → Stood bytes at (record_of told.0) told.1
+record_stands bytes at told reading said within small e =
+    stood bytes at told.1 (record_of told.0) small (sym said ∙ ap (reading_said bytes) e)
+    (subst (λ r. place_of r ≤ length bytes) e within)
 
-  pub record_stands : {behind : ℕ} → place_of reading.place ≤ length bytes → ((i : ℕ) → get_or bytes i 0 < 256)
-      → reading.place ≡ Behind behind → Stood bytes at (record_of reading.content) behind
-  record_stands {behind} within small e =
-      stood bytes at behind (record_of reading.content) small (step_is (Behind behind) e)
-      (subst (λ p. place_of p ≤ length bytes) e within)
-
--- ---- Turns and ends
+-- ---- Turns
 
 module _ {bytes out : List ℕ} {at : ℕ} {printed : List ℕ} {written : ℕ} (so : Printed bytes out at printed written)
   where
@@ -115,43 +112,18 @@ module _ {bytes out : List ℕ} {at : ℕ} {printed : List ℕ} {written : ℕ} 
         ap length so.put.buffer
         ∙ length_put out 0 (lines_of so.records) (omega (arith, so.put.behind, so.fits))
 
-    pub printing_goes_on : {r : Record} {behind : ℕ} {after : List ℕ} {written₁ : ℕ} → Stood bytes at r behind
-        → written + most_line ≤ length printed → Put printed written (record_line r) after written₁
-        → written₁ ≤ written + most_line → Printed bytes out behind after written₁
-    printing_goes_on {r} {after = after} {written₁ = written₁} stands room put few =
+    pub printing_goes_on : {r : Record} {behind : ℕ} {line after : List ℕ} {written₁ : ℕ} → Stood bytes at r behind
+        → written + most_line ≤ length printed → line ≡ record_line r → length line ≤ most_line
+        → Put printed written line after written₁
+        → Printed bytes out behind after written₁
+    printing_goes_on {r} {line = line} {after = after} {written₁ = written₁} stands room its few put =
         record {
           records = so.records ++ (r ∷ []);
           read = more so.read stands.read;
           within = stands.within;
           put =
-              subst (λ (text : List ℕ). Put out 0 text after written₁) (lines_more so.records r)
+              subst (λ (text : List ℕ). Put out 0 text after written₁)
+              (ap (λ (l : List ℕ). lines_of so.records ++ l) its ∙ lines_more so.records r)
               (then so.put (omega (arith, so.put.behind, so.fits)) put);
-          fits = omega (arith, kept);
+          fits = omega (arith, kept, put.behind);
         }
-
-    listing : (place : Place) → Stands place bytes (drop at bytes) written out
-        → Listing bytes out printed (record { at = at; written = written; place = place })
-    listing place stands =
-        record {
-          records = so.records;
-          read = so.read;
-          within = so.within;
-          put = so.put;
-          fits = so.fits;
-          stands = stands;
-        }
-
-    module _ (reading : Reading) (said : reading_said bytes reading ≡ step (drop at bytes)) where
-      pub printed_whole : reading.place ≡ End
-          → Listing bytes out printed (record { at = at; written = written; place = End })
-      printed_whole e = listing End (step_is bytes at reading said End e)
-
-      pub printed_before : {cause : Cause} {bad : ℕ} → reading.place ≡ Bad cause bad
-          → Listing bytes out printed (record { at = at; written = written; place = Bad cause bad })
-      printed_before {cause} {bad} e = listing (Bad cause bad) (step_is bytes at reading said (Bad cause bad) e)
-
-      pub no_room_lem : {behind : ℕ} → reading.place ≡ Behind behind → length printed - written < most_line
-          → Listing bytes out printed (record { at = at; written = written; place = Behind behind })
-      no_room_lem {behind} e less =
-          let next-is = step_is bytes at reading said (Behind behind) e in
-          listing (Behind behind) ((record_of reading.content, next-is), omega (arith, kept, so.fits))

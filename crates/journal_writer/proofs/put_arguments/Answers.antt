@@ -1,47 +1,49 @@
--- `journal_writer::put_arguments`: a batch's, or as many as the letter has.
-use Prim.Native.Nat.{ℕ, ◌+◌, ◌≤◌}
-use mathlib.Core.Path.{subst, subst⁻¹}
-use mathlib.Core.List.{List}
-use native.Mathlib.Omega.{arith}
-use borrow.Author.Tests.{eq-eqb, ne_eqb}
-use lib.ListN.{length}
-use Rattle.journal.specs.Groups.{grouped}
-use Rattle.journal_writer.specs.Numbers.{Wrote}
-use Rattle.journal_writer.specs.Laws.Arguments.{batch_numbers_lem, other_numbers}
+-- `put_arguments`: a batch's with their count, or any other's.
+use Rattle.std.proofs.Common.{arith}
+use Rattle.std.proofs.lemmas.Grind.{common_steps}
+use Rattle.journal_writer.specs.Laws.Numbers.{other_numbers, batch_bytes, batch_small}
 use Rattle.journal_writer.proofs.put_arguments.Goals as goal
 
-pub put_batch-requires : goal.put_batch-requires
-put_batch-requires c = (
-  c.requires.0,
-  c.requires.1 (eq-eqb _ 71 c.if-letter-eq-BATCH.true),
-  subst (λ (l : List ℕ). c.args.at + length (grouped l) ≤ length c.args.out.now)
-      (batch_numbers_lem c.args.letter c.args.operations c.args.arguments.now c.if-letter-eq-BATCH.true (omega (
-        arith,
-        c.requires.0,
-        (c.requires.1 (eq-eqb _ 71 c.if-letter-eq-BATCH.true)),
-      ))) c.requires.2,
-)
-
-pub returns-then-letter-eq-BATCH : goal.returns-then-letter-eq-BATCH
-returns-then-letter-eq-BATCH c =
-    subst⁻¹ (λ (l : List ℕ). Wrote c.args.out.now c.args.at l c.put_batch.new.out c.put_batch.result)
-    (batch_numbers_lem c.args.letter c.args.operations c.args.arguments.now c.if-letter-eq-BATCH.true (omega (
-      arith,
-      c.requires.0,
-      (c.requires.1 (eq-eqb _ 71 c.if-letter-eq-BATCH.true)),
-    ))) c.put_batch.ensures
+-- ---- Any other's
 
 pub put_numbers-requires : goal.put_numbers-requires
 put_numbers-requires c =
-    subst (λ (l : List ℕ). c.args.at + length (grouped l) ≤ length c.args.out.now) (other_numbers c.args.letter
-    (ne_eqb _ 71 c.if-letter-eq-BATCH.false) c.args.operations c.arguments_of-count.result c.args.arguments.now
-    c.arguments_of-count.ensures (omega (arith, c.requires.0))) c.requires.2
+    let e = other_numbers c.args.content.now c.requires.shape (omega arith) c.if-content-ne-BATCH.true in
+    grind (arith, common_steps, e)
 
-pub returns : goal.returns
-returns c =
-    subst⁻¹ (λ (l : List ℕ). Wrote c.args.out.now c.args.at l c.put_numbers.new.out c.put_numbers.result)
-    (other_numbers c.args.letter (ne_eqb _ 71 c.if-letter-eq-BATCH.false) c.args.operations
-    c.arguments_of-count.result c.args.arguments.now c.arguments_of-count.ensures (omega (
-      arith,
-      c.requires.0,
-    ))) c.put_numbers.ensures
+pub returns-then-content-ne-BATCH-clause-bytes : goal.returns-then-content-ne-BATCH-clause-bytes
+returns-then-content-ne-BATCH-clause-bytes c =
+    let e = other_numbers c.args.content.now c.requires.shape (omega arith) c.if-content-ne-BATCH.true in
+    grind (arith, common_steps, e)
+
+pub returns-then-content-ne-BATCH-clause-small : goal.returns-then-content-ne-BATCH-clause-small
+returns-then-content-ne-BATCH-clause-small c =
+    let e = other_numbers c.args.content.now c.requires.shape (omega arith) c.if-content-ne-BATCH.true in
+    grind (arith, common_steps, e)
+
+-- ---- A batch's
+
+pub put_numbers-requires-2 : goal.put_numbers-requires-2
+put_numbers-requires-2 c =
+    let e = batch_bytes c.args.content.now c.requires.shape (omega arith) c.if-content-ne-BATCH.false in
+    grind (arith, common_steps, e)
+
+pub put_number-requires : goal.put_number-requires
+put_number-requires c =
+    let e = batch_bytes c.args.content.now c.requires.shape (omega arith) c.if-content-ne-BATCH.false in
+    grind (arith, common_steps, e)
+
+pub put_numbers-requires-3 : goal.put_numbers-requires-3
+put_numbers-requires-3 c =
+    let e = batch_bytes c.args.content.now c.requires.shape (omega arith) c.if-content-ne-BATCH.false in
+    grind (arith, common_steps, e)
+
+pub returns-clause-bytes : goal.returns-clause-bytes
+returns-clause-bytes c =
+    let e = batch_bytes c.args.content.now c.requires.shape (omega arith) c.if-content-ne-BATCH.false in
+    grind (arith, common_steps, e)
+
+pub returns-clause-small : goal.returns-clause-small
+returns-clause-small c =
+    let e = batch_small c.args.content.now c.requires.shape (omega arith) c.if-content-ne-BATCH.false in
+    grind (arith, common_steps, e)

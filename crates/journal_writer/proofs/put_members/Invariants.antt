@@ -1,10 +1,10 @@
--- `journal_writer::put_members`: the members of what is left are left to put.
+-- `put_members`: the members of what is left are left to put.
+use Rattle.std.proofs.Common.{◌++◌}
 use Rattle.bitset.specs.Bitset.{members}
-use Rattle.journal_writer.specs.Laws.Writing.{Putting}
+use Rattle.journal.specs.Groups.{grouped}
+use Rattle.journal_writer.specs.Laws.Putting.{Left}
 use Rattle.journal_writer.proofs.put_members.Given as goal
 
-abbrev pub invariant-loop-left : goal.invariant-loop-left
-invariant-loop-left l = Putting l.initial.out l.at (members l.set) l.out l.end (members l.left)
-
-abbrev pub decreases-loop-left : goal.decreases-loop-left
-decreases-loop-left l = l.left
+abbrev pub invariant-loop-member : goal.invariant-loop-member
+invariant-loop-member l =
+    Left l.out.items (grouped (members l.member-iterator.set)) (l.initial.out.items ++ grouped (members l.fn.set))

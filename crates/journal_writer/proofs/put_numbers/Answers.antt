@@ -1,30 +1,29 @@
--- `journal_writer::put_numbers`: those from i on are left to put.
-use native.Mathlib.Omega.{arith}
-use lib.ListN.{drop_of_length-le}
-use Rattle.journal_writer.specs.Laws.Writing.{start, kept, end_put, from_place, next_fits, next_put}
+-- `put_numbers`: those behind are left to put.
+use Rattle.std.proofs.Common.{◌+◌, drop, get_or, ap, arith, length-append, drop_of_length-le}
+use Rattle.journal.specs.Groups.{groups, grouped}
+use Rattle.journal_writer.specs.Laws.Putting.{room, one_more, all_put, from_place, narrow_all}
 use Rattle.journal_writer.proofs.put_numbers.Goals as goal
 
-pub loop-i-init : goal.loop-i-init
-loop-i-init c =
-    let a = c.args in (omega arith, start a.out.now a.at a.numbers.now)
+pub put_number-requires : goal.put_number-requires
+put_number-requires c =
+    let numbers = c.args.numbers.now in
+    let i = c.loop-number.number-index in
+    omega (
+      arith,
+      room c.loop-number.invariant (groups (get_or numbers i 0)) (grouped (drop (i + 1) numbers))
+          (from_place numbers i c.loop-number-test.true),
+      length-append c.args.out.now.items (grouped numbers),
+    )
 
-pub put_number-end-requires : goal.put_number-end-requires
-put_number-end-requires c =
-    next_fits c.loop-i.invariant.1 c.requires _ _
-    (from_place c.args.numbers.now c.loop-i.i c.loop-i-test.true)
+pub loop-number-preserved : goal.loop-number-preserved
+loop-number-preserved c =
+    one_more c.loop-number.invariant _ _ _
+    (from_place c.args.numbers.now c.loop-number.number-index c.loop-number-test.true) c.put_number.ensures
 
-pub loop-i-preserved : goal.loop-i-preserved
-loop-i-preserved c = (
-  omega (arith, c.loop-i-test.true),
-  next_put c.loop-i.invariant.1 c.requires _ _
-      (from_place c.args.numbers.now c.loop-i.i c.loop-i-test.true)
-      c.put_number-end.ensures,
-)
+pub returns-clause-bytes : goal.returns-clause-bytes
+returns-clause-bytes c =
+    all_put c.loop-number.invariant
+    (ap grouped (drop_of_length-le c.args.numbers.now c.loop-number-test.false))
 
-pub shape_of-out : goal.shape_of-out
-shape_of-out c = kept c.loop-i.invariant.1 c.requires
-
-pub returns : goal.returns
-returns c =
-    end_put c.loop-i.invariant.1 c.requires
-    (drop_of_length-le c.args.numbers.now c.loop-i-test.false)
+pub returns-clause-small : goal.returns-clause-small
+returns-clause-small c = narrow_all c.args.numbers.now (λ i. omega (arith, c.type_inv.numbers i))

@@ -1,75 +1,148 @@
--- A line is a letter and the numbers behind it.
-use Rattle.std.specs.Prelude.{ℕ, ◌≤◌, ◌≡◌, refl, Bool, true, false, cond, List, [], ◌∷◌, eqb, leb, length, get_or, take}
-use Rattle.std.specs.Prelude.{drop}
-use Prim.Native.Char.{code}
-use Rattle.std.proofs.Common.{arith, sym, ap, ◌∙◌, eqb-true, leb-true, le-leb}
-use Rattle.std.proofs.Math.Option.{Option, none, some}
-use Rattle.operations.proofs.Laws.Cases.{split as by_test}
-use Rattle.text.specs.Text.{longer, split}
-use Rattle.lines.specs.Lines.{asked, asked_with, call_of_fields, call_in}
-use Rattle.lines.specs.Coded.{arguments_of, few, behind}
-use Rattle.lines.specs.declared.Arguments.{Arguments}
+-- The fields of a line, taken one after the other: the first is the letter, and the numbers of the others are pushed.
+use Rattle.std.specs.Prelude.{ℕ, ◌<◌, ◌≡◌, refl, List, [], ◌∷◌, ◌++◌, Some, None, length, get_or}
+use Rattle.std.specs.Prelude.{Bool, false, eqb, map, take, drop}
+use Rattle.std.specs.Fn.{CalledAt}
+use Rattle.std.specs.Iterator.{Yields}
+use Rattle.std.specs.Slice.Iter.{split_rest, split_done, split_callee, split_steps}
+use Rattle.std.specs.declared.slice.Split.{Split}
+use Rattle.std.proofs.Common.{arith, sym, ap, ◌∙◌, subst, length-append, Bor}
+use Rattle.std.proofs.Math.Option as math
+use Rattle.std.proofs.Math.Option.{none, some, none-ne-some}
+use Rattle.std.proofs.Math.Seq.{append_snoc}
+use Rattle.std.proofs.lemmas.Bool.{lt-leb}
+use Rattle.std.proofs.lemmas.List.{take-append-drop, map-append}
+use Rattle.std.proofs.lemmas.Iterator.{YieldsList}
+use Rattle.std.proofs.lemmas.Iterator.Consumers.{YieldsList-so_far, YieldsList-end}
+use Rattle.std.proofs.lemmas.Iterator.Splits.{YieldsList-from_slice_split}
+use Rattle.std.proofs.iter.Next.{Yields-more}
+use Rattle.text.specs.Text.{split, number_in}
+use Rattle.text.proofs.Laws.Splitting.{split_is}
+use denote.Param.Members.{Mut}
+use Rattle.lines.specs.Lines.{with_first, numbers_in, asked, asked_with, call_of_fields}
 use Rattle.lines.proofs.Laws.Calls.{too_many_lem}
 
-abbrev pub space : ℕ
-space = code " "
+-- ---- The numbers of fields
 
-pub kept : (numbers : List ℕ) → length numbers ≤ 65 → few (some numbers) ≡ some numbers
-kept numbers l = rw (le-leb (length numbers) 65 l)
+-- Numbers that were read, before those of the fields that are left.
+abbrev before : List ℕ → math.Option (List ℕ) → math.Option (List ℕ)
+before numbers none = none
+before numbers (some more) = some (numbers ++ more)
 
-few_asked : (letter : ℕ) (numbers : Option (List ℕ)) → asked_with letter (few numbers) ≡ asked_with letter numbers
-few_asked letter none = refl
-few_asked letter (some numbers) =
-    by_test (leb (length numbers) 65)
-    (λ (e : leb (length numbers) 65 ≡ true). ap (asked_with letter) (kept numbers (leb-true _ _ e)))
-    (λ (e : leb (length numbers) 65 ≡ false).
-    let f : few (some numbers) ≡ none = rw e in
-    ap (asked_with letter) f ∙ sym (too_many_lem letter numbers e))
+before_none : (more : math.Option (List ℕ)) → before [] more ≡ more
+before_none none = refl
+before_none (some more) = refl
 
--- A longer word is no letter.
-glued : (letter b : ℕ) (pieces : List (List ℕ)) → call_of_fields (longer letter (longer b pieces)) ≡ none
-glued letter b [] = refl
-glued letter b (piece ∷ pieces) = refl
+with_before : (n : ℕ) (numbers : List ℕ) (more : math.Option (List ℕ))
+    → with_first (some n) (before numbers more) ≡ before (n ∷ numbers) more
+with_before n numbers none = refl
+with_before n numbers (some more) = refl
 
-behind_letter : (letter : ℕ) (rest : List ℕ)
-    → call_of_fields (longer letter (split space rest)) ≡ asked_with letter (behind rest)
-behind_letter letter [] = refl
-behind_letter letter (b ∷ text) =
-    by_test (eqb b space) (λ (e : eqb b space ≡ true). rw e refl)
-    (λ (e : eqb b space ≡ false). rw e (glued letter b (split space text)))
+numbers_behind : (fields : List (List ℕ)) (numbers : List ℕ) → numbers_in fields ≡ some numbers
+    → (more : List (List ℕ)) → numbers_in (fields ++ more) ≡ before numbers (numbers_in more)
+numbers_behind [] numbers e more =
+    let none-read : numbers ≡ [] = cc in
+    rw none-read (sym (before_none (numbers_in more)))
+numbers_behind (field ∷ fields) numbers e more =
+    first (number_in field) (numbers_in fields) (λ ns e. numbers_behind fields ns e more) e
+  where
+    first : (n : math.Option ℕ) (r : math.Option (List ℕ))
+        → ((ns : List ℕ) → r ≡ some ns → numbers_in (fields ++ more) ≡ before ns (numbers_in more))
+        → with_first n r ≡ some numbers
+        → with_first n (numbers_in (fields ++ more)) ≡ before numbers (numbers_in more)
+    first none r others e = absurd (none-ne-some numbers e)
+    first (some n) none others e = absurd (none-ne-some numbers e)
+    first (some n) (some ns) others e =
+        let all : numbers ≡ n ∷ ns = cc in
+        rw all (ap (with_first (some n)) (others ns refl) ∙ with_before n ns (numbers_in more))
 
-no_call : (numbers : Option (List ℕ)) → none ≡ asked_with space numbers
-no_call none = refl
-no_call (some numbers) = refl
+-- ---- The call of a letter and fields
 
-letter_first : (first : Bool) (letter : ℕ) → eqb letter space ≡ first → (rest : List ℕ)
-    → call_of_fields (cond first ([] ∷ split space rest) (longer letter (split space rest)))
-    ≡ asked_with letter (behind rest)
-letter_first true letter e rest = rw (eqb-true letter space e) (no_call (behind rest))
-letter_first false letter e rest = behind_letter letter rest
+one_letter : (word : List ℕ) → length word ≡ 1 → word ≡ get_or word 0 0 ∷ []
+one_letter [] e = absurd (omega arith)
+one_letter (letter ∷ []) e = refl
+one_letter (letter ∷ b ∷ word) e = absurd (omega arith)
 
-pub no_letter : (line : List ℕ) → length line ≡ 0 → none ≡ call_in line
-unfolding call_in
-no_letter [] e = refl
-no_letter (letter ∷ rest) e = absurd (omega arith)
+pub other_word : (word : List ℕ) (fields : List (List ℕ)) → (length word ≡ 1 → ⊥)
+    → none ≡ call_of_fields (word ∷ fields)
+other_word [] fields other = refl
+other_word (letter ∷ []) fields other = absurd (other refl)
+other_word (letter ∷ b ∷ word) fields other = refl
 
-line_read : (letter : ℕ) (rest : List ℕ) → call_in (letter ∷ rest) ≡ asked_with letter (few (behind rest))
-unfolding call_in
-line_read letter rest = letter_first (eqb letter space) letter refl rest ∙ sym (few_asked letter (behind rest))
+-- A letter, and fields of which the first say these numbers.
+module _ (word : List ℕ) (alone : length word ≡ 1) (fields : List (List ℕ)) {numbers : List ℕ}
+    (read : numbers_in fields ≡ some numbers) where
+  abbrev letter : ℕ
+  letter = get_or word 0 0
 
-asked_by : (line : List ℕ) → (length line ≡ 0 → ⊥)
-    → call_in line ≡ asked_with (get_or line 0 0) (few (behind (drop 1 line)))
-asked_by [] some-letter = absurd (some-letter refl)
-asked_by (letter ∷ rest) some-letter = line_read letter rest
+  with_letter : (others : List (List ℕ)) → call_of_fields (word ∷ others) ≡ asked_with letter (numbers_in others)
+  with_letter others = ap (λ (w : List ℕ). call_of_fields (w ∷ others)) (one_letter word alone)
 
-module _ (line : List ℕ) (given : Arguments) (found : arguments_of given ≡ few (behind (drop 1 line)))
-    (some-letter : length line ≡ 0 → ⊥) where
-  from_arguments : (numbers : Option (List ℕ)) → arguments_of given ≡ numbers
-      → asked_with (get_or line 0 0) numbers ≡ call_in line
-  from_arguments numbers e = ap (asked_with (get_or line 0 0)) (sym e ∙ found) ∙ sym (asked_by line some-letter)
+  pub all_read : asked letter numbers ≡ call_of_fields (word ∷ fields)
+  all_read = sym (with_letter fields ∙ ap (asked_with letter) read)
 
-  pub arguments_wrong : given.read ≡ false → none ≡ call_in line
-  arguments_wrong e = from_arguments none (rw e)
+  module _ (field : List ℕ) (more : List (List ℕ)) where
+    pub no_number : none ≡ number_in field → none ≡ call_of_fields (word ∷ fields ++ (field ∷ more))
+    no_number e =
+        sym (with_letter (fields ++ (field ∷ more))
+        ∙ ap (asked_with letter) (numbers_behind fields numbers read (field ∷ more)
+        ∙ ap (λ (o : math.Option ℕ). before numbers (with_first o (numbers_in more))) (sym e)))
 
-  pub arguments_right_lem : given.read ≡ true → asked (get_or line 0 0) (take given.count given.values) ≡ call_in line
-  arguments_right_lem e = from_arguments (some (take given.count given.values)) (rw e)
+    pub too_many_fields : length numbers ≡ 65 → none ≡ call_of_fields (word ∷ fields ++ (field ∷ more))
+    too_many_fields full =
+        sym (with_letter (fields ++ (field ∷ more))
+        ∙ ap (asked_with letter) (numbers_behind fields numbers read (field ∷ more))
+        ∙ refused (number_in field) (numbers_in more))
+      where
+        refused : (o : math.Option ℕ) (r : math.Option (List ℕ))
+            → asked_with letter (before numbers (with_first o r)) ≡ none
+        refused none r = refl
+        refused (some n) none = refl
+        refused (some n) (some ns) =
+            let long : 65 < length (numbers ++ (n ∷ ns)) = simp length-append (omega arith) in
+            too_many_lem letter (numbers ++ (n ∷ ns)) (lt-leb (length (numbers ++ (n ∷ ns))) 65 long)
+
+pub numbers_pushed : (fields : List (List ℕ)) {numbers : List ℕ} → numbers_in fields ≡ some numbers → (field : List ℕ)
+    {n : ℕ} → some n ≡ number_in field → numbers_in (fields ++ (field ∷ [])) ≡ some (numbers ++ (n ∷ []))
+numbers_pushed fields {numbers} read field e =
+    numbers_behind fields numbers read (field ∷ [])
+    ∙ ap (λ (o : math.Option ℕ). before numbers (with_first o (some []))) (sym e)
+
+-- ---- The fields, as they come
+
+module _ {F : Type 0} {g : Mut F (Bor ℕ × Unit {0}) Bool} (s j : Split ℕ F) (first : Bor (List ℕ))
+    (begun : split_steps g s (Some first) j) (line : List ℕ) (rest : split_rest s ≡ line) (done : split_done s ≡ false)
+    {f : F} (test : split_callee s ≡ f)
+    (computes : (x : ℕ) (b : Bool) (q : F) → CalledAt g f x b q → (q ≡ f) × (b ≡ eqb x 32)) where
+  road : YieldsList (split_steps g) (λ x. x.now) s (split 32 line)
+  road = rw split_is (YieldsList-from_slice_split g (λ b. eqb b 32) line rest done test computes)
+
+  pub first_passed : (more : List (List ℕ)) × (split 32 line ≡ first.now ∷ more)
+  first_passed =
+      let all : List (List ℕ) = split 32 line in
+      let so_far : first.now ∷ [] ≡ take 1 all = YieldsList-so_far road (first ∷ []) j (j, begun, refl) in (
+        drop 1 all,
+        sym (take-append-drop 1 all) ∙ ap (λ (l : List (List ℕ)). l ++ drop 1 all) (sym so_far),
+      )
+
+  module _ (k t u : Split ℕ F) (same : k ≡ j) (fields : List (Bor (List ℕ)))
+      (y : Yields (split_steps g) k fields t) where
+    from_first : Yields (split_steps g) s (first ∷ fields) t
+    from_first = (k, subst (λ (i : Split ℕ F). split_steps g s (Some first) i) (sym same) begun, y)
+
+    pub last_passed : split_steps g t None u → split 32 line ≡ first.now ∷ map (λ x. x.now) fields
+    last_passed step = sym (YieldsList-end road (first ∷ fields) t from_first None u refl step).0
+
+    pub another : (field : Bor (List ℕ)) → split_steps g t (Some field) u
+        → (more : List (List ℕ)) × (split 32 line ≡ first.now ∷ map (λ x. x.now) fields ++ (field.now ∷ more))
+    another field step =
+        let all : List (List ℕ) = split 32 line in
+        let taken : List (Bor (List ℕ)) = first ∷ fields ++ (field ∷ []) in
+        let so_far : map (λ x. x.now) taken ≡ take (length taken) all =
+        YieldsList-so_far road taken u (Yields-more (split_steps g) s (first ∷ fields) t field u from_first step) in
+        let more : List (List ℕ) = drop (length taken) all in (
+          more,
+          sym (take-append-drop (length taken) all)
+              ∙ ap (λ (l : List (List ℕ)). l ++ more)
+              (sym so_far ∙ ap (λ (l : List (List ℕ)). first.now ∷ l) (map-append (λ x. x.now) fields (field ∷ [])))
+              ∙ ap (λ (l : List (List ℕ)). first.now ∷ l) (append_snoc (map (λ x. x.now) fields) field.now more),
+        )

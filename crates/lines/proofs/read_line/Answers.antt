@@ -1,27 +1,78 @@
--- `lines::read_line`: the letter, and the numbers behind it.
-use mathlib.Core.Path.{◌∙◌}
-use borrow.Author.Tests.{not-true, not-false}
-use Rattle.lines.proofs.Laws.Calls.{unread_says}
-use Rattle.lines.proofs.Laws.Fields.{no_letter, arguments_wrong, arguments_right_lem}
+-- `lines::read_line`: the fields as they come, the first of them the letter.
+use Rattle.std.proofs.Common.{◌≡◌, ◌∙◌, sym, ap, arith, length, rules, get_or}
+use Rattle.std.proofs.lemmas.List.{map-append}
+use Rattle.std.proofs.lemmas.Bool.Decides.{nat_tests}
+use borrow.Author.Tests.{tests}
+use Rattle.std.proofs.Math.Option.{some}
+use Rattle.lines.specs.Coded.{call_said}
+use Rattle.lines.specs.Lines.{call_in, call_of_fields, asked, numbers_in}
+use Rattle.lines.proofs.Laws.Fields.{other_word, numbers_pushed, no_number, too_many_fields, all_read}
+use Rattle.lines.proofs.Laws.Fields.{first_passed, last_passed, another}
+use Rattle.lines.proofs.read_line.Goals.{in_default-via-then-first-lt1, in_default-via-else-first-lt1+else-first-lt2}
 use Rattle.lines.proofs.read_line.Goals as goal
 
-pub returns-then-line-eq0 : goal.returns-then-line-eq0
-returns-then-line-eq0 c =
-    unread_says c.unread.result c.unread.ensures
-    (no_letter c.args.line.now c.if-line-eq0.true)
+pub returns-in_default : goal.returns-in_default
+unfolding call_in
+returns-in_default c =
+    let first = c.in_ok-first.first in
+    let split = c.split-fields.ensures in
+    let (more, all) = first_passed c.split-fields.result c.next.new.self first c.in_ok-first.ensures.steps
+    c.args.line.now split.rest split.done split.closure (λ x r q k. search (rules, tests)) in
+    let other : length first.now ≡ 1 → ⊥ =
+    elim c.in_default.branch [
+      | in_default-via-then-first-lt1 w ↦ λ one. grind (arith, nat_tests)
+      | in_default-via-else-first-lt1+else-first-lt2 w ↦ λ one. grind (arith, nat_tests)
+    ] in
+    other_word first.now more other ∙ ap call_of_fields (sym all)
 
-pub returns-then-not-given : goal.returns-then-not-given
-returns-then-not-given c =
-    unread_says c.unread-then-not-given.result c.unread-then-not-given.ensures
-    (arguments_wrong c.args.line.now c.read_arguments-given.result
-    c.read_arguments-given.ensures.0
-    c.if-line-eq0.false (not-true _ c.if-not-given.true))
+pub returns-in_err-read_number : goal.returns-in_err-read_number
+unfolding call_in
+returns-in_err-read_number c =
+    let first = c.in_ok-first.first in
+    let loop = c.loop-field in
+    let split = c.split-fields.ensures in
+    let (more, all) = another c.split-fields.result c.next.new.self first c.in_ok-first.ensures.steps
+    c.args.line.now split.rest split.done split.closure (λ x r q k. search (rules, tests))
+    c.into_iter-field-iterator.result loop.field-iterator c.next-in-loop-field.new.self
+    c.into_iter-field-iterator.ensures.into_iter_gives loop.yielded loop.yielded_by
+    c.in-Some.field c.in-Some.ensures.steps in
+    ap call_said c.from_residual-in_err-read_number.ensures
+    ∙ no_number first.now (omega arith) _ loop.invariant c.in-Some.field.now more c.in_err-read_number.ensures
+    ∙ ap call_of_fields (sym all)
+
+pub returns-in_err-ok : goal.returns-in_err-ok
+unfolding call_in
+returns-in_err-ok c =
+    let first = c.in_ok-first.first in
+    let loop = c.loop-field in
+    let split = c.split-fields.ensures in
+    let (more, all) = another c.split-fields.result c.next.new.self first c.in_ok-first.ensures.steps
+    c.args.line.now split.rest split.done split.closure (λ x r q k. search (rules, tests))
+    c.into_iter-field-iterator.result loop.field-iterator c.next-in-loop-field.new.self
+    c.into_iter-field-iterator.ensures.into_iter_gives loop.yielded loop.yielded_by
+    c.in-Some.field c.in-Some.ensures.steps in
+    ap call_said c.from_residual-in_err-ok.ensures
+    ∙ too_many_fields first.now (omega arith) _ loop.invariant c.in-Some.field.now more
+    (grind (arith, c.in_err-ok.ensures.value, c.try_push.ensures.full))
+    ∙ ap call_of_fields (sym all)
 
 pub returns : goal.returns
+unfolding call_in
 returns c =
-    let said = c.line_of.ensures in (
-      said.0 ∙ arguments_right_lem c.args.line.now c.read_arguments-given.result
-          c.read_arguments-given.ensures.0
-          c.if-line-eq0.false (not-false _ c.if-not-given.false),
-      said.1,
-    )
+    let first = c.in_ok-first.first in
+    let loop = c.loop-field in
+    let split = c.split-fields.ensures in
+    let all = last_passed c.split-fields.result c.next.new.self first c.in_ok-first.ensures.steps
+    c.args.line.now split.rest split.done split.closure (λ x r q k. search (rules, tests))
+    c.into_iter-field-iterator.result loop.field-iterator c.next-in-loop-field.new.self
+    c.into_iter-field-iterator.ensures.into_iter_gives loop.yielded loop.yielded_by
+    c.in-None.ensures.steps in
+    c.line_of.ensures ∙ ap (asked (get_or first.now 0 0)) c.deref.ensures.0
+    ∙ all_read first.now (omega arith) _ loop.invariant
+    ∙ ap call_of_fields (sym all)
+
+pub loop-field-preserved : goal.loop-field-preserved
+loop-field-preserved c =
+    ap numbers_in (map-append (λ x. x.now) c.loop-field.yielded _)
+    ∙ numbers_pushed _ c.loop-field.invariant c.in-Some.field.now c.in_ok-read_number.ensures
+    ∙ ap some (grind (arith, c.in_ok-ok.ensures.value, c.try_push.ensures.ok))

@@ -7,13 +7,14 @@ use Rattle.operations.proofs.Laws.Cases.{split, by_key}
 use Rattle.text.proofs.Laws.Tests.{left, right}
 use Rattle.journal.specs.Records.{arguments_of, is_batch, has_reply, gives, operations_of}
 use Rattle.journal.specs.Records.{arguments_fit, reply_fits, shaped, Reply, nothing, wait, answered, ended}
-use Rattle.journal.specs.Coded.{front, argument_count, reply_of, record_of}
+use Rattle.journal.specs.Coded.{front, argument_count, answer_count, reply_of, record_of}
 use Rattle.journal.specs.declared.Record.{Record}
 use Rattle.listing.specs.Listing.{most_line}
 use Rattle.letters.specs.Letters.{most_arguments}
 use Rattle.listing.specs.Room.{most_number, most_reply}
 use Rattle.journal.proofs.Laws.Fronts.{length_front}
-use Rattle.listing.proofs.Laws.Replying.{is_ended}
+use Rattle.letters.specs.Laws.{few_answers}
+use Rattle.listing.proofs.Laws.Replying.{Lists, lists_answers, is_ended, lists_ended}
 
 -- No call but a batch has more than a set up's kinds.
 abbrev most : ℕ → ℕ
@@ -151,3 +152,15 @@ module _ (r : Record) (so : shaped (record_of r) ≡ true) where
       let fits : reply_fits r.letter arguments (ended r.code list) ≡ true =
       subst (λ (reply : Reply). reply_fits r.letter arguments reply ≡ true) (is_ended r e zero one) reply_fits_lem in
       omega (arith, length_front r.listed r.numbers, list_few r.letter r.code arguments list fits)
+
+  -- The list is within its array, and so is printed whole.
+  module _ (all : length r.numbers ≡ 64) (e : has_reply r.letter ≡ true) where
+    pub answers_listed : {n : ℕ} → r.code ≡ 1 → n ≡ answer_count r.letter r.operations → Lists r 1 n
+    answers_listed one counted =
+        lists_answers r e one counted (omega (arith, all, counted, few_answers r.letter r.operations few_arguments))
+
+    pub others_listed : (r.code ≡ 0 → ⊥) → (r.code ≡ 1 → ⊥) → Lists r r.code r.listed
+    others_listed zero one = lists_ended r e zero one (omega (arith, all, few_listed e zero one))
+
+-- How many numbers a record's parts have.
+pub ruleset bounds = (few_arguments, few_listed, few_answers)

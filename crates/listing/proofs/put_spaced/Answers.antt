@@ -1,27 +1,25 @@
--- `listing::put_spaced`: the numbers passed are put.
-use native.Mathlib.Omega.{arith}
-use Rattle.listing.proofs.Laws.Spacing.{start, kept, next_fits, turn, whole}
+-- `listing::put_spaced`: one more number is put.
+use Rattle.std.proofs.Common.{get_or, refl, arith, rules}
+use Rattle.replies.proofs.Laws.Printing.{field_few, number_put}
 use Rattle.listing.proofs.put_spaced.Goals as goal
 
-pub loop-i-init : goal.loop-i-init
-loop-i-init c = let a = c.args in (omega arith, start a.out.now a.at a.numbers.now)
+pub put_field-requires : goal.put_field-requires
+put_field-requires g c = (
+  search rules,
+  omega (
+    arith,
+    c.requires.room,
+    c.loop-number.invariant.1,
+    c.loop-number-test.true,
+    field_few (get_or c.args.numbers.now c.loop-number.number-index 0)
+        (omega (arith, c.type_inv.numbers c.loop-number.number-index)),
+  ),
+)
 
-pub put_field-end-requires : goal.put_field-end-requires
-put_field-end-requires c =
-    next_fits c.loop-i.invariant.1 (omega (arith, c.loop-i.invariant.0, c.requires.0))
-    (omega (arith, c.loop-i-test.true, c.requires.0))
-    (omega (arith, c.type_inv.numbers c.loop-i.i))
-
-pub loop-i-preserved : goal.loop-i-preserved
-loop-i-preserved c =
-    let put = c.put_field-end.ensures in
-    (omega arith, turn c.loop-i.invariant.1 (omega (arith, c.loop-i.invariant.0, c.requires.0)) put.0 put.1)
-
-pub shape_of-out : goal.shape_of-out
-shape_of-out c = kept c.loop-i.invariant.1 (omega (arith, c.loop-i.invariant.0, c.requires.0))
-
-pub returns : goal.returns
-returns c =
-    let loop = c.loop-i in
-    let count = c.args.count in
-    whole count (omega (arith, c.loop-i-test.false, loop.invariant.0)) loop.invariant.1
+pub loop-number-preserved : goal.loop-number-preserved
+loop-number-preserved g c =
+    let put = c.put_field.ensures in (
+      number_put c.args.out.now.items c.args.numbers.now c.loop-number.number-index _ c.loop-number.invariant.0
+          c.loop-number-test.true refl put.text,
+      omega (arith, c.loop-number.invariant.1, put.few),
+    )

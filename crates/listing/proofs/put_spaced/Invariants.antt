@@ -1,10 +1,11 @@
 -- `listing::put_spaced`: the numbers passed are put.
-use Prim.Native.Nat.{◌-◌, ◌≤◌}
-use Rattle.listing.proofs.Laws.Spacing.{Spaced}
+use Rattle.std.proofs.Common.{◌≡◌, ◌+◌, ◌*◌, ◌≤◌, ◌++◌, take}
+use Rattle.arrayvec.specs.ArrayVec.{array_vec_len}
+use Rattle.replies.specs.Printed.{spaced}
+use Rattle.listing.specs.Room.{most_number}
 use Rattle.listing.proofs.put_spaced.Given as goal
 
-abbrev pub invariant-loop-i : goal.invariant-loop-i
-invariant-loop-i l = (l.i ≤ l.count) × Spaced l.initial.out l.at l.numbers l.out l.end l.i
-
-abbrev pub decreases-loop-i : goal.decreases-loop-i
-decreases-loop-i l = l.count - l.i
+abbrev pub invariant-loop-number : goal.invariant-loop-number
+invariant-loop-number g l =
+    (l.out.items ≡ l.initial.out.items ++ spaced (take l.number-index l.numbers))
+    × (array_vec_len l.out ≤ array_vec_len l.initial.out + most_number * l.number-index)

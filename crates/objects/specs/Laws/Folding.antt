@@ -81,7 +81,7 @@ module _ (w : List ℕ) (o : ℕ) where
   part_word : (i : ℕ) → word part_at i ≡ word w (object_start o + i)
   part_word i = ap (λ (l : List ℕ). word l i) (tail_part w (object_start o)) ∙ get_or-drop (object_start o) w i 0
 
-  part_rows : rows_in part_at ≡ rows_at w o
+  pub part_rows : rows_in part_at ≡ rows_at w o
   part_rows =
       sym (rows_tabulated part_at)
       ∙ ap (λ (n : ℕ). tabulate n (λ i. row (word part_at (2 + 2 * i)) (word part_at (2 + 2 * i + 1)))) (part_word 1)

@@ -1,24 +1,11 @@
 -- Ranges and zeros of one object.
-use Rattle.std.specs.Prelude.{ℕ, ◌+◌, ◌-◌, ◌*◌, ◌≤◌, ◌<◌, ◌≡◌, true, ◌↔◌, List, eqb, leb, take, drop}
-use Rattle.std.proofs.Common.{ap, sym, ◌∙◌, arith, eqb-true, leb-true, eq-eqb, le-leb, length-take, get_or-take}
+use Rattle.std.specs.Prelude.{ℕ, ◌+◌, ◌-◌, ◌*◌, ◌≤◌, ◌<◌, ◌≡◌, ◌↔◌, List, take, drop}
+use Rattle.std.proofs.Common.{ap, sym, ◌∙◌, arith, length-take, get_or-take}
 use Rattle.std.proofs.Common.{get_or-drop}
 use Rattle.std.proofs.Math.ListN.{get_or-eq_default}
 use Rattle.store.specs.Layout.{word, object_start, ObjectPacked}
 use Rattle.store.proofs.Laws.Words.{below}
 use Rattle.objects.specs.Objects.{InRange}
-
-module _ (k n : ℕ) where
-  pub none_range : k ≡ 0 → (eqb n 0 ≡ true) ↔ InRange k n
-  none_range e = (
-    λ t. let m = eqb-true n 0 t in record { kind = omega arith; rows = omega arith; none = λ f. m },
-    λ r. eq-eqb n 0 (r.none e),
-  )
-
-  pub some_range : (k ≡ 0 → ⊥) → k < 4 → (leb n 64 ≡ true) ↔ InRange k n
-  some_range other l = (
-    λ t. record { kind = omega arith; rows = leb-true n 64 t; none = λ f. absurd (other f) },
-    λ r. le-leb n 64 r.rows,
-  )
 
 -- The words of a part are 0 where those of the whole are.
 zeros : (w : List ℕ) (a e : ℕ) → ((i : ℕ) → word (take (e - a) (drop a w)) i ≡ 0)
@@ -33,9 +20,6 @@ zeros w a e = (
     at i l = get_or-take (e - a) (drop a w) i 0 l ∙ get_or-drop a w i 0
 
 module _ (w : List ℕ) (o k n : ℕ) (kind : k ≡ word w (object_start o)) (count : n ≡ word w (object_start o + 1)) where
-  pub packed_range : ObjectPacked w o → InRange k n
-  packed_range p = record { kind = rw kind p.kind; rows = rw count p.rows; none = rw (kind, count) p.none }
-
   pub packed_zeros : InRange k n
       → ((i : ℕ)
       → word (take (object_start o + 130 - (object_start o + 2 + 2 * n)) (drop (object_start o + 2 + 2 * n) w)) i ≡ 0)

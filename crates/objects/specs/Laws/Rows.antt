@@ -1,120 +1,151 @@
 -- The form of an object's rows, by what is tested: their second words, neighbouring keys and the kind.
-use Rattle.std.specs.Prelude.{ℕ, zero, suc, ◌+◌, ◌≤◌, ◌<◌, ◌≡◌, refl, Bool, true, false, ◌||◌, ◌↔◌, List, eqb, leb, ltb}
-use Rattle.std.proofs.Common.{ap, sym, ◌∙◌, subst, true≢false, not-suc-le-zero, arith, below_none, below_more, ltb-true}
-use Rattle.std.proofs.Common.{lt-ltb, leb-false}
-use Rattle.std.proofs.Math.Option.{some, none-ne-some}
+use Rattle.std.specs.Prelude.{ℕ, ◌<◌, ◌-◌, ◌≡◌, refl, Bool, true, false, ◌||◌, ◌↔◌, List, [], ◌∷◌, map, leb, ltb}
+use Rattle.std.specs.Prelude.{length, get_or, take, drop}
+use Rattle.std.proofs.Common.{ap, ap₂, sym, ◌∙◌, subst, true≢false, arith, ltb-true, lt-ltb, leb-false, Bor}
+use Rattle.std.proofs.Math.Option.{some}
 use Rattle.std.proofs.lemmas.Bool.{lt-leb}
 use Rattle.std.specs.Int.Bits.{bit_or}
-use Rattle.operations.specs.Operations.{Kind, Stack, Set, Table, Row, reduce_key, All, NoValue, KeyReduced, WellFormed}
+use Rattle.std.specs.List.{fold}
+use Rattle.std.specs.Iterator.{AlwaysYields}
+use Rattle.std.proofs.lemmas.Iterator.{YieldsList}
+use Rattle.std.specs.Slice.Iter.{windows_rest, windows_size, windows_steps}
+use Rattle.operations.specs.Operations.{Kind, Stack, Set, Table, Row, reduce_key, All, NoValue, WellFormed}
+use Rattle.operations.proofs.Laws.Cases.{all_map}
 use Rattle.operations.proofs.Laws.Storing.{reduced_below}
+use Rattle.operations.specs.Kinds.{number_of_kind}
+use Rattle.operations.specs.declared.Kind.{Kind as CodeKind}
+use Rattle.operations.specs.declared.Kind.TheVariants as kinds
+use Rattle.replay.specs.Replay.{row_of}
 use Rattle.store.specs.Store.{Object}
-use Rattle.store.specs.Layout.{word, tabulate, base, decode, read_kind, object_start, rows_at, ObjectPacked}
+use Rattle.store.specs.Layout.{word, base, decode, read_kind, object_start, rows_at}
 use Rattle.store.specs.Soundness.{RowsFormed}
-use Rattle.store.proofs.Laws.Lists.{tabulate_zero, length_tabulate, get_d_tabulate, get_d_past, all_each, all_of}
-use Rattle.store.proofs.Laws.Words.{below}
 use Rattle.store.proofs.Laws.Reading.{object_read, kind_below}
-use Rattle.layout.specs.Laws.{Seen, seen_next, seen_all}
-use Rattle.objects.specs.Objects.{KeyedRows, ObjectFormed}
+use Rattle.layout.specs.Laws.{or_zero_lem}
+use Rattle.objects.specs.Objects.{KeyedRows, ObjectFormed, rows_in}
+use Rattle.objects.specs.Laws.Folding.{part_rows}
 use mathlib.Core.Logic.Iff
 
 -- ---- Second words: their union is 0 exactly where each is
 
-module _ (n : ℕ) (f : ℕ → Row) where
-  abbrev pub values : List ℕ
-  values = tabulate n (λ i. (f i).value)
+abbrev pub union : ℕ → List ℕ → ℕ
+union seen pair = bit_or seen (get_or pair 1 0)
 
-  pub values_next : (i seen : ℕ) → i < n → Seen values i seen → Seen values (i + 1) (bit_or seen (f i).value)
-  values_next i seen l s =
-      subst (λ (v : ℕ). Seen values (i + 1) (bit_or seen v)) (get_d_tabulate n (λ j. (f j).value) i 0 l)
-      (seen_next values i seen s)
-
-  pub values_all : (i seen : ℕ) → n ≤ i → Seen values i seen → (eqb seen 0 ≡ true) ↔ All NoValue (tabulate n f)
-  values_all i seen l s =
-      let both = seen_all values i seen (rw length_tabulate l) s in (
-        λ e. all_of NoValue n f (λ j m. sym (get_d_tabulate n (λ k. (f k).value) j 0 m) ∙ both.0 e j),
-        λ a. both.1 (λ j. below j n (λ m. get_d_tabulate n (λ k. (f k).value) j 0 m ∙ all_each NoValue n f a j m)
-            (get_d_past n (λ k. (f k).value) j 0)),
-      )
+pub none_seen : (pairs : List (List ℕ)) (seen : ℕ)
+    → (fold union seen pairs ≡ 0) ↔ ((seen ≡ 0) × All NoValue (map row_of pairs))
+none_seen [] seen = (λ e. (e, tt), λ p. p.0)
+none_seen (p ∷ ps) seen =
+    let rest = none_seen ps (union seen p) in (
+      λ e. let r = rest.0 e in let z = or_zero_lem seen (get_or p 1 0) r.0 in (z.0, (z.1, r.1)),
+      λ h. rest.1 (ap₂ bit_or h.0 h.1.0, h.1.1),
+    )
 
 -- ---- Keys: each below the next, and the last reduced
 
--- The first i keys are each below the next.
-abbrev pub Rising : (ℕ → Row) → ℕ → Type 0
-Rising f i = (j : ℕ) → j < i → (f j).key < (f (suc j)).key
+-- The first pair and each other with the one before it.
+abbrev pub neighbours : List ℕ → List (List ℕ) → List (List (List ℕ))
+neighbours p [] = []
+neighbours p (q ∷ ps) = (p ∷ q ∷ []) ∷ neighbours q ps
 
-rising_first : (f : ℕ → Row) (n : ℕ) → Rising f n → (j : ℕ) → j < n → (f 0).key < (f (suc j)).key
-rising_first f n r zero l = r 0 l
-rising_first f n r (suc j) l = omega (arith, rising_first f n r j (omega arith), r (suc j) l)
+windows_give : (p : List ℕ) (ps : List (List ℕ)) (s : _) → windows_size s ≡ 2
+    → windows_rest s ≡ p ∷ ps → AlwaysYields windows_steps (λ (w : Bor (List (List ℕ))). w.now) s (neighbours p ps)
+windows_give p [] s size rest = λ w t step. absurd (omega (arith, step.1.0, size, ap length rest))
+windows_give p (q ∷ ps) s size rest = (
+  λ t step. absurd (omega (arith, step.1.0, size, ap length rest)),
+  λ w t step. (
+    step.1.1 ∙ ap₂ take size rest,
+    windows_give q ps t (step.0 ∙ size) (step.1.2 ∙ ap (drop 1) rest),
+  ),
+)
 
-rising_keyed : (n : ℕ) (f : ℕ → Row) → Rising f n → (f n).key < 16_777_216 → KeyedRows (tabulate (suc n) f)
-unfolding tabulate
-rising_keyed zero f r l = (((reduced_below (f 0).key).0 l, tt), (tt, tt))
-rising_keyed (suc n) f r l =
-    let rest = rising_keyed n (λ i. f (suc i)) (λ j m. r (suc j) (omega arith)) l in
-    let above = rising_first f (suc n) r in (
-      ((reduced_below (f 0).key).0 (omega (arith, above n (omega arith))), rest.0),
-      (all_of (λ (q : Row). (f 0).key < q.key) (suc n) (λ i. f (suc i)) above, rest.1),
+-- Whether a key so far, or of these two, is not below the next.
+abbrev pub falls : Bool → List (List ℕ) → Bool
+falls falling pair = falling || leb (get_or (get_or pair 1 []) 0 0) (get_or (get_or pair 0 []) 0 0)
+
+or_parts : (a b : Bool) → a || b ≡ false → (a ≡ false) × (b ≡ false)
+or_parts true b e = absurd (true≢false e)
+or_parts false b e = (refl, e)
+
+never_fell : (xs : List (List (List ℕ))) (falling : Bool) → fold falls falling xs ≡ false → falling ≡ false
+never_fell [] falling e = e
+never_fell (x ∷ xs) falling e = (or_parts falling _ (never_fell xs (falls falling x) e)).0
+
+abbrev pub last_key : List ℕ → List (List ℕ) → ℕ
+last_key p ps = get_or (get_or (p ∷ ps) (length ps) []) 0 0
+
+pub rising_keyed : (p : List ℕ) (ps : List (List ℕ)) (falling : Bool) → fold falls falling (neighbours p ps) ≡ false
+    → last_key p ps < 16_777_216 → KeyedRows (map row_of (p ∷ ps))
+rising_keyed p [] falling e l = (((reduced_below (get_or p 0 0)).0 l, tt), (tt, tt))
+rising_keyed p (q ∷ ps) falling e l =
+    let next = falls falling (p ∷ q ∷ []) in
+    let rest = rising_keyed q ps next e l in
+    let below : get_or p 0 0 < get_or q 0 0 =
+    leb-false _ _ (or_parts falling _ (never_fell (neighbours q ps) next e)).1 in
+    let reduced = (reduced_below (get_or q 0 0)).1 rest.0.0 in (
+      ((reduced_below (get_or p 0 0)).0 (omega arith), rest.0),
+      ((below, all_map (λ (r : Row) (m : get_or q 0 0 < r.key). omega arith) (map row_of ps) rest.1.0), rest.1),
     )
 
-keyed_rising : (n : ℕ) (f : ℕ → Row) → KeyedRows (tabulate (suc n) f) → Rising f n
-unfolding tabulate
-keyed_rising zero f k j l = absurd (not-suc-le-zero l)
-keyed_rising (suc n) f k zero l = k.1.0.0
-keyed_rising (suc n) f k (suc j) l = keyed_rising n (λ i. f (suc i)) (k.0.1, k.1.1) j (omega arith)
+pub keyed_rising : (p : List ℕ) (ps : List (List ℕ)) (falling : Bool) → falling ≡ false
+    → KeyedRows (map row_of (p ∷ ps))
+    → (fold falls falling (neighbours p ps) ≡ false) × (last_key p ps < 16_777_216)
+keyed_rising p [] falling e k = (e, (reduced_below (get_or p 0 0)).1 k.0.0)
+keyed_rising p (q ∷ ps) falling e k =
+    keyed_rising q ps _ (rw e (lt-leb (get_or q 0 0) (get_or p 0 0) k.1.0.0)) (k.0.1, k.1.1)
 
--- Whether a key that the scan has passed is not below the next.
-module _ (f : ℕ → Row) where
-  abbrev pub Tells : ℕ → Bool → Type 0
-  Tells i falling = (falling ≡ false) ↔ Rising f i
+abbrev pub windows_of : List (List ℕ) → List (List (List ℕ))
+windows_of [] = []
+windows_of (p ∷ ps) = neighbours p ps
 
-  pub tells_start : Tells 0 false
-  tells_start = (λ e. below_none _, λ r. refl)
+pub windows_yield : (pairs : List (List ℕ)) (s : _) → windows_size s ≡ 2 → windows_rest s ≡ pairs
+    → YieldsList windows_steps (λ (w : Bor (List (List ℕ))). w.now) s (windows_of pairs)
+windows_yield [] s size rest = record { runs = λ w t step. absurd (omega (arith, step.1.0, size, ap length rest)) }
+windows_yield (p ∷ ps) s size rest = record { runs = windows_give p ps s size rest }
 
-  pub tells_next : (i next : ℕ) (falling : Bool) → next ≡ (f (suc i)).key → Tells i falling
-      → Tells (i + 1) (falling || leb next (f i).key)
-  tells_next i next true e t = (λ q. absurd (true≢false q), λ r. t.1 (λ j l. r j (omega arith)))
-  tells_next i next false e t = (
-    λ q. below_more _ _ (t.0 refl) (omega (arith, leb-false next (f i).key q)),
-    λ r. lt-leb next (f i).key (omega (arith, r i (omega arith))),
-  )
+pub keyed_last : (pairs : List (List ℕ)) (last : List ℕ) → 0 < length pairs → last ≡ get_or pairs (length pairs - 1) []
+    → fold falls false (windows_of pairs) ≡ false
+    → (ltb (get_or last 0 0) 16_777_216 ≡ true) ↔ KeyedRows (map row_of pairs)
+keyed_last [] last filled ends rising = absurd (omega arith)
+keyed_last (p ∷ ps) last filled ends rising =
+    let same : get_or last 0 0 ≡ last_key p ps =
+    ap (λ (q : List ℕ). get_or q 0 0) ends ∙ ap (λ n. get_or (get_or (p ∷ ps) n []) 0 0) (omega arith) in
+    rw same (
+      λ e. rising_keyed p ps false rising (ltb-true _ _ e),
+      λ k. lt-ltb _ _ (keyed_rising p ps false refl k).1,
+    )
 
-  pub keyed_none : (n : ℕ) → n ≡ 0 → KeyedRows (tabulate n f)
-  keyed_none n e = rw (e, tabulate_zero f) (tt, tt)
-
-  module _ (n last i : ℕ) (size : n ≡ suc last) (passed : i ≡ last) (falling : Bool) (tells : Tells i falling) where
-    pub keyed_last : falling ≡ false → (ltb (f last).key 16_777_216 ≡ true) ↔ KeyedRows (tabulate n f)
-    keyed_last e =
-        rw size (
-          λ q. rising_keyed last f (rw passed at (tells.0 e)) (ltb-true _ _ q),
-          λ k. lt-ltb _ _
-              ((reduced_below (f last).key).1 (all_each (KeyReduced reduce_key) (suc last) f k.0 last (omega arith))),
-        )
-
-    pub keyed_no : falling ≡ true → KeyedRows (tabulate n f) → ⊥
-    keyed_no e k = true≢false (sym e ∙ tells.1 (rw passed (keyed_rising last f (rw size at k))))
+pub keyed_no : (pairs : List (List ℕ)) → fold falls false (windows_of pairs) ≡ true → KeyedRows (map row_of pairs) → ⊥
+keyed_no [] e k = true≢false (sym e)
+keyed_no (p ∷ ps) e k = true≢false (sym e ∙ (keyed_rising p ps false refl k).0)
 
 -- ---- By kind
 
-module _ (w : List ℕ) (o k : ℕ) (number : k ≡ word w (object_start o)) where
-  of_kind_lem : (kind : Kind) → read_kind k ≡ some kind → WellFormed reduce_key kind (rows_at w o) ↔ ObjectFormed w o
-  of_kind_lem kind e = (
-    λ h other f. let same : kind ≡ other = cc in subst (λ (q : Kind). WellFormed reduce_key q (rows_at w o)) same h,
-    λ h. h kind (ap read_kind (sym number) ∙ e),
-  )
+-- The rows of the part that starts at the object, and the kind that its first word names.
+module _ (w : List ℕ) (o s : ℕ) (at : s ≡ object_start o) (rows : List Row)
+    (own : rows ≡ rows_in (take (length w - s) (drop s w))) (kind : CodeKind)
+    (number : number_of_kind kind ≡ word w s) where
+  as_kind : (own_kind : Kind) → read_kind (number_of_kind kind) ≡ some own_kind
+      → WellFormed reduce_key own_kind rows ↔ ObjectFormed w o
+  as_kind own_kind e =
+      let same : rows ≡ rows_at w o =
+      own ∙ ap (λ (n : ℕ). rows_in (take (length w - n) (drop n w))) at ∙ part_rows w o in
+      let read : read_kind (word w (object_start o)) ≡ some own_kind =
+      ap read_kind (ap (word w) (sym at) ∙ sym number) ∙ e in (
+        λ h other f. let alike : own_kind ≡ other = cc in
+            subst (λ (q : Kind). WellFormed reduce_key q (rows_at w o)) alike
+            (subst (WellFormed reduce_key own_kind) same h),
+        λ h. subst (WellFormed reduce_key own_kind) (sym same) (h own_kind read),
+      )
 
-  pub as_stack : k ≡ 1 → All NoValue (rows_at w o) ↔ ObjectFormed w o
-  as_stack e = of_kind_lem Stack (ap read_kind e)
+  pub as_stack : kind ≡ kinds.Stack → All NoValue rows ↔ ObjectFormed w o
+  as_stack e = as_kind Stack (ap (λ q. read_kind (number_of_kind q)) e)
 
-  pub as_set : k ≡ 2 → (All NoValue (rows_at w o) × KeyedRows (rows_at w o)) ↔ ObjectFormed w o
-  as_set e = Iff.trans (λ h. (h.0, h.1.0, h.1.1), λ h. (h.0, (h.1, h.2))) (of_kind_lem Set (ap read_kind e))
+  pub as_set : kind ≡ kinds.Set → (All NoValue rows × KeyedRows rows) ↔ ObjectFormed w o
+  as_set e =
+      Iff.trans (λ h. (h.0, h.1.0, h.1.1), λ h. (h.0, (h.1, h.2)))
+      (as_kind Set (ap (λ q. read_kind (number_of_kind q)) e))
 
-  pub as_table_lem : k ≡ 3 → KeyedRows (rows_at w o) ↔ ObjectFormed w o
-  as_table_lem e = of_kind_lem Table (ap read_kind e)
-
-  pub as_none : ObjectPacked w o → (k ≡ 1 → ⊥) → (k ≡ 2 → ⊥) → (k ≡ 3 → ⊥) → ObjectFormed w o
-  as_none packed stack set table kind f =
-      let zero : word w (object_start o) ≡ 0 = omega (arith, number, packed.kind, stack, set, table) in
-      absurd (none-ne-some kind (sym (ap read_kind zero) ∙ f))
+  pub as_table : kind ≡ kinds.Table → KeyedRows rows ↔ ObjectFormed w o
+  as_table e = as_kind Table (ap (λ q. read_kind (number_of_kind q)) e)
 
 pub all_formed : (w : List ℕ) → ((o : ℕ) → o < 16 → ObjectFormed w o) ↔ RowsFormed base (decode base w)
 all_formed w = (

@@ -1,20 +1,22 @@
 -- Rows changed in place, in the part of a book that starts with their object.
-use Rattle.std.specs.Prelude.{ℕ, zero, suc, ◌+◌, ◌-◌, ◌*◌, ◌≤◌, ◌<◌, ◌≡◌, refl, true, false, List, [], ◌∷◌, ◌++◌}
-use Rattle.std.specs.Prelude.{length, get_or, set, take, drop, replicate}
-use Rattle.std.proofs.Common.{sym, ap, ap₂, ◌∙◌, append_assoc, not-suc-le-zero, add-one, arith, length-append}
-use Rattle.std.proofs.Common.{length-set, drop_of_length-le, length-take-le, take_all}
-use Rattle.std.proofs.lemmas.List.{length-map, set_split, set-get_or}
-use Rattle.std.proofs.Math.Seq.{set-append_seam}
+use Rattle.std.specs.Prelude.{Bool, ℕ, zero, suc, ◌+◌, ◌-◌, ◌*◌, ◌≤◌, ◌<◌, ◌≡◌, refl, true, false, List, [], ◌∷◌, ◌++◌}
+use Rattle.std.specs.Prelude.{◌/◌, map, length, set, take, drop, replicate}
+use Rattle.std.proofs.Common.{sym, ap, ap₂, ◌∙◌, append_assoc, not-suc-le-zero, arith}
+use Rattle.std.proofs.Common.{length-set, length-take-le, length-drop, get_or-take, get_or-drop}
+use Rattle.std.proofs.Common.{take-append-drop, drop-cons}
+use Rattle.std.proofs.lemmas.List.{length-map, set-get_or}
+use borrow.Rule.Slice.PartMut.{put_mid}
+use Rattle.std.specs.List.{copy_within}
+use Rattle.std.specs.Simd.{first_chunks}
 use Rattle.operations.specs.Operations.{Row, row, present, inserted, deleted, modified}
-use Rattle.operations.specs.declared.Operation.{Operation}
-use Rattle.replay.specs.Replay.{row_of, next_named, position_of, put_at, removed_at}
-use Rattle.replay.specs.Laws.Lists.{put_next, put_last_lem, removed_next, removed_last}
-use Rattle.replay.specs.Laws.Numbers.{next_push}
+use Rattle.replay.specs.Replay.{row_of, position_of, put_at, removed_at}
+use Rattle.replay.specs.Laws.Lists.{length_put, length_removed}
 use Rattle.replay.specs.Laws.Positions.{row_at, there, absent, inserted_more}
-use Rattle.store.specs.Layout.{word, joined, row_words}
-use Rattle.store.proofs.Laws.Lists.{length_tabulate, get_d_tabulate}
+use Rattle.store.specs.Layout.{word, tabulate, joined, row_words}
+use Rattle.store.proofs.Laws.Lists.{length_tabulate, tabulate_same}
 use Rattle.store.proofs.Laws.Words.{joined_append}
 use Rattle.store.proofs.Laws.Objects.{rows_length}
+use Rattle.objects.specs.Laws.Moving.{moved_up, moved_down}
 use Rattle.objects.specs.Objects.{words_of, pairs_in, rows_in, with_rows, StartsPacked}
 
 -- ---- Rows as words, and others after them
@@ -25,8 +27,36 @@ pairs_count w = length_tabulate (word w 1) _
 pub rows_count : (w : List ℕ) → length (rows_in w) ≡ word w 1
 rows_count w = length-map (pairs_in w) row_of ∙ pairs_count w
 
-pub pair_key : (w : List ℕ) (i : ℕ) → i < word w 1 → get_or (get_or (pairs_in w) i []) 0 0 ≡ word w (2 + 2 * i)
-pair_key w i l = ap (λ (p : List ℕ). get_or p 0 0) (get_d_tabulate (word w 1) _ i [] l)
+-- Words two by two.
+chunks : (n : ℕ) (w : List ℕ) → 2 * n ≤ length w
+    → first_chunks 2 n w ≡ tabulate n (λ i. word w (2 * i) ∷ word w (2 * i + 1) ∷ [])
+unfolding tabulate
+chunks zero w l = refl
+chunks (suc n) [] l = absurd (omega arith)
+chunks (suc n) (a ∷ []) l = absurd (omega arith)
+chunks (suc n) (a ∷ b ∷ w) l =
+    let later = tabulate_same n (λ i. word w (2 * i) ∷ word w (2 * i + 1) ∷ [])
+    (λ i. word (a ∷ b ∷ w) (2 * suc i) ∷ word (a ∷ b ∷ w) (2 * suc i + 1) ∷ [])
+    (λ i m. let e : 2 * suc i ≡ suc (suc (2 * i)) = omega arith in
+    let f : 2 * suc i + 1 ≡ suc (suc (2 * i + 1)) = omega arith in
+    ap₂ (λ (j k : ℕ). word (a ∷ b ∷ w) j ∷ word (a ∷ b ∷ w) k ∷ []) (sym e) (sym f)) in
+    ap (λ l. (a ∷ b ∷ []) ∷ l) (chunks n w (omega arith) ∙ later)
+
+-- The rows as pairs of words.
+pub rows_chunks : (w : List ℕ) → 130 ≤ length w → word w 1 ≤ 64
+    → (let part = take (2 + 2 * word w 1 - 2) (drop 2 w) in
+    map row_of (first_chunks 2 (length part / 2) part) ≡ rows_in w)
+rows_chunks w long few =
+    let n = word w 1 in
+    let part = take (2 + 2 * n - 2) (drop 2 w) in
+    let size : length part ≡ 2 * n = length-take-le _ (drop 2 w) (omega (arith, length-drop 2 w)) ∙ omega arith in
+    let half : length part / 2 ≡ n = omega arith in
+    let same : tabulate n (λ i. word part (2 * i) ∷ word part (2 * i + 1) ∷ []) ≡ pairs_in w =
+    tabulate_same n _ _ (λ i l. ap₂ (λ (j k : ℕ). j ∷ k ∷ [])
+    (get_or-take _ (drop 2 w) (2 * i) 0 (omega arith) ∙ get_or-drop 2 w (2 * i) 0)
+    (get_or-take _ (drop 2 w) (2 * i + 1) 0 (omega arith) ∙ get_or-drop 2 w (2 * i + 1) 0
+    ∙ ap (word w) (omega arith))) in
+    ap (map row_of) (ap (λ m. first_chunks 2 m part) half ∙ chunks n part (omega arith) ∙ same)
 
 rows_stored : (rs : List Row) (rest : List ℕ) (i k v : ℕ) → i < length rs
     → set (set (joined row_words rs ++ rest) (2 * i) k) (suc (2 * i)) v ≡ joined row_words (set rs i (row k v)) ++ rest
@@ -50,12 +80,6 @@ abbrev laid : ℕ → ℕ → List Row → List ℕ → List ℕ
 laid kind n rs rest = kind ∷ n ∷ (joined row_words rs ++ rest)
 
 module _ (kind n : ℕ) (rs : List Row) (rest : List ℕ) where
-  laid_snoc : (r : Row) → laid kind n (rs ++ (r ∷ [])) rest ≡ laid kind n rs (r.key ∷ r.value ∷ rest)
-  laid_snoc r =
-      ap (λ (w : List ℕ). kind ∷ n ∷ w)
-      (ap (λ (w : List ℕ). w ++ rest) (joined_append row_words rs (r ∷ []))
-      ∙ append_assoc (joined row_words rs) (row_words r) rest)
-
   module _ (i : ℕ) (l : i < length rs) where
     two : 2 + 2 * i ≡ suc (suc (2 * i))
     two = omega arith
@@ -70,18 +94,12 @@ module _ (kind n : ℕ) (rs : List Row) (rest : List ℕ) where
     laid_key : word (laid kind n rs rest) (2 + 2 * i) ≡ (row_at rs i).key
     laid_key = rw two (rows_read rs rest i l).0
 
-    laid_value : word (laid kind n rs rest) (2 + 2 * i + 1) ≡ (row_at rs i).value
-    laid_value = rw three (rows_read rs rest i l).1
-
--- The row past the last.
-laid_pushed : (kind n : ℕ) (rs : List Row) (rest : List ℕ) (x y k v : ℕ)
-    → set (set (laid kind n rs (x ∷ y ∷ rest)) (2 + 2 * length rs) k) (2 + 2 * length rs + 1) v
-    ≡ laid kind n (rs ++ (row k v ∷ [])) rest
-laid_pushed kind n rs rest x y k v =
-    ap (λ (w : List ℕ). set (set w (2 + 2 * length rs) k) (2 + 2 * length rs + 1) v)
-    (sym (laid_snoc kind n rs rest (row x y)))
-    ∙ laid_stored kind n (rs ++ (row x y ∷ [])) rest (length rs) (simp length-append (omega arith)) k v
-    ∙ ap (λ (q : List Row). laid kind n q rest) (set-append_seam rs (row x y) [] (row k v))
+-- Two words as a row's.
+pair_words : (pair : List ℕ) → length pair ≡ 2 → pair ≡ row_words (row_of pair)
+pair_words [] e = absurd (omega arith)
+pair_words (k ∷ []) e = absurd (omega arith)
+pair_words (k ∷ v ∷ []) e = refl
+pair_words (k ∷ v ∷ x ∷ more) e = absurd (omega arith)
 
 -- Zeros from the rows on to the object's end.
 abbrev zeros : ℕ → List ℕ → List ℕ
@@ -100,177 +118,169 @@ zeros_two n rest l =
     let e : 128 - 2 * n ≡ suc (suc (128 - 2 * (n + 1))) = omega arith in
     ap (λ (m : ℕ). replicate m 0 ++ rest) e
 
--- ---- Other rows, as many, in the object that w starts with
+-- ---- A row put in, and a row left out
 
-pub record Stands (w part : List ℕ) (rs : List Row) : Type 0 where
-  pub count : length rs ≡ word w 1
-  pub words : part ≡ laid (word w 0) (word w 1) rs (zeros (word w 1) (drop 130 w))
+module _ (w : List ℕ) (packed : StartsPacked w) where
+  -- The words up to row i, with another number of rows.
+  front : ℕ → ℕ → List ℕ
+  front n i = word w 0 ∷ n ∷ joined row_words (take i (rows_in w))
 
-stands_start : (w : List ℕ) → StartsPacked w → Stands w w (rows_in w)
-stands_start w packed =
-    record {
-      count = rows_count w;
-      words = packed.words ∙ object_laid (word w 0) (rows_in w) (drop 130 w) (word w 1) (rows_count w);
-    }
+  front_length : (n i : ℕ) → i ≤ word w 1 → length (front n i) ≡ 2 + 2 * i
+  unfolding front
+  front_length n i l =
+      omega (arith, rows_length (take i (rows_in w)), length-take-le i (rows_in w) (omega (arith, rows_count w)))
 
-module _ (w part : List ℕ) (rs : List Row) (s : Stands w part rs) where
-  stands_end : part ≡ with_rows w rs
-  stands_end = s.words ∙ sym (object_laid (word w 0) rs (drop 130 w) (word w 1) s.count)
+  -- The words from row i on to the last row's.
+  behind : ℕ → List ℕ
+  behind i = joined row_words (drop i (rows_in w))
 
-  module _ (i : ℕ) (l : i < word w 1) where
-    stands_stored : (k v : ℕ) → Stands w (set (set part (2 + 2 * i) k) (2 + 2 * i + 1) v) (set rs i (row k v))
-    stands_stored k v =
-        record {
-          count = length-set rs i (row k v) ∙ s.count;
-          words = ap (λ (q : List ℕ). set (set q (2 + 2 * i) k) (2 + 2 * i + 1) v) s.words
-              ∙ laid_stored (word w 0) (word w 1) rs (zeros (word w 1) (drop 130 w)) i (omega (arith, s.count)) k v;
-        }
+  behind_length : (i : ℕ) → i ≤ word w 1 → length (behind i) ≡ 2 * (word w 1 - i)
+  unfolding behind
+  behind_length i l = omega (arith, rows_length (drop i (rows_in w)), length-drop i (rows_in w), rows_count w)
 
-    stands_read : row (word part (2 + 2 * i)) (word part (2 + 2 * i + 1)) ≡ row_at rs i
-    stands_read =
-        let within : i < length rs = omega (arith, s.count) in
-        let rest = zeros (word w 1) (drop 130 w) in
-        ap (λ (q : List ℕ). row (word q (2 + 2 * i)) (word q (2 + 2 * i + 1))) s.words
-        ∙ ap₂ row (laid_key (word w 0) (word w 1) rs rest i within) (laid_value (word w 0) (word w 1) rs rest i within)
+  free : List ℕ
+  free = zeros (word w 1) (drop 130 w)
 
--- One row's second word.
+  split_rows : (i : ℕ) → joined row_words (rows_in w) ≡ joined row_words (take i (rows_in w)) ++ behind i
+  unfolding behind
+  split_rows i =
+      ap (joined row_words) (sym (take-append-drop i (rows_in w)))
+      ∙ joined_append row_words (take i (rows_in w)) (drop i (rows_in w))
+
+  words_lem : (i : ℕ) → w ≡ front (word w 1) i ++ (behind i ++ free)
+  unfolding front free
+  words_lem i =
+      packed.words ∙ object_laid (word w 0) (rows_in w) (drop 130 w) (word w 1) (rows_count w)
+      ∙ ap (λ (l : List ℕ). word w 0 ∷ word w 1 ∷ (l ++ free)) (split_rows i)
+      ∙ ap (λ (l : List ℕ). word w 0 ∷ word w 1 ∷ l)
+      (append_assoc (joined row_words (take i (rows_in w))) (behind i) free)
+
+  pub opened : (at m : ℕ) (pair : List ℕ) → length pair ≡ 2 → at ≤ word w 1 → word w 1 < 64 → m ≡ 2
+      → (let moved = put_mid (2 + 2 * at) m (copy_within w (2 + 2 * at) (2 + 2 * word w 1) (2 + 2 * at + 2)) pair in
+      set moved 1 (word moved 1 + 1) ≡ with_rows w (put_at at (row_of pair) (rows_in w)))
+  unfolding front behind free
+  opened at m pair two l room same =
+      let n = word w 1 in
+      let target = put_at at (row_of pair) (rows_in w) in
+      let rest = zeros (n + 1) (drop 130 w) in
+      let words : w ≡ front n at ++ (behind at ++ ((0 ∷ 0 ∷ []) ++ rest)) =
+      words_lem at ∙ ap (λ (l : List ℕ). front n at ++ (behind at ++ l)) (zeros_two n (drop 130 w) room) in
+      let moved : put_mid (2 + 2 * at) m (copy_within w (2 + 2 * at) (2 + 2 * n) (2 + 2 * at + 2)) pair
+      ≡ front n at ++ (pair ++ (behind at ++ rest)) =
+      ap (λ (q : List ℕ). put_mid (2 + 2 * at) m (copy_within q (2 + 2 * at) (2 + 2 * n) (2 + 2 * at + 2)) pair) words
+      ∙ moved_up (front n at) (behind at) (0 ∷ 0 ∷ []) rest pair (2 + 2 * at) (2 + 2 * n) 2 m (front_length n at l)
+      (omega (arith, behind_length at l)) refl same in
+      let more : length target ≡ n + 1 =
+      length_put at (row_of pair) (rows_in w) ∙ ap (λ (k : ℕ). k + 1) (rows_count w) in
+      let rows : joined row_words (take at (rows_in w)) ++ (pair ++ (behind at ++ rest))
+      ≡ joined row_words target ++ rest =
+      ap (λ (q : List ℕ). joined row_words (take at (rows_in w)) ++ (q ++ (behind at ++ rest))) (pair_words pair two)
+      ∙ ap (λ (q : List ℕ). joined row_words (take at (rows_in w)) ++ q)
+      (sym (append_assoc (row_words (row_of pair)) (behind at) rest))
+      ∙ sym (append_assoc (joined row_words (take at (rows_in w))) (row_words (row_of pair) ++ behind at) rest)
+      ∙ ap (λ (q : List ℕ). q ++ rest)
+      (sym (joined_append row_words (take at (rows_in w)) (row_of pair ∷ drop at (rows_in w)))) in
+      ap (λ (q : List ℕ). set q 1 (word q 1 + 1)) moved
+      ∙ ap (λ (q : List ℕ). word w 0 ∷ (n + 1) ∷ q) rows
+      ∙ sym (object_laid (word w 0) target (drop 130 w) (n + 1) more)
+
+  pub closed : (at k m : ℕ) → at < word w 1 → k ≡ 2 * word w 1 → m ≡ 2
+      → (let moved = put_mid k m (copy_within w (2 + 2 * at + 2) (2 + 2 * word w 1) (2 + 2 * at)) (replicate m 0) in
+      set moved 1 (word moved 1 - 1) ≡ with_rows w (removed_at at (rows_in w)))
+  unfolding front behind free
+  closed at k m l place same =
+      let n = word w 1 in
+      let target = removed_at at (rows_in w) in
+      let gone = row_words (row_at (rows_in w) at) in
+      let later = behind (suc at) in
+      let this : behind at ≡ gone ++ later =
+      ap (joined row_words) (drop-cons (rows_in w) at (row 0 0) (omega (arith, rows_count w))) in
+      let words : w ≡ front n at ++ (gone ++ (later ++ free)) =
+      words_lem at ∙ ap (λ (q : List ℕ). front n at ++ (q ++ free)) this
+      ∙ ap (λ (q : List ℕ). front n at ++ q) (append_assoc gone later free) in
+      let size : length later ≡ 2 * (n - suc at) = behind_length (suc at) (omega arith) in
+      let moved : put_mid k m (copy_within w (2 + 2 * at + 2) (2 + 2 * n) (2 + 2 * at)) (replicate m 0)
+      ≡ front n at ++ (later ++ (replicate m 0 ++ free)) =
+      ap (λ (q : List ℕ). put_mid k m (copy_within q (2 + 2 * at + 2) (2 + 2 * n) (2 + 2 * at)) (replicate m 0)) words
+      ∙ moved_down (front n at) later gone free (replicate m 0) (2 + 2 * at) (2 + 2 * n) 2 k m
+      (front_length n at (omega arith)) refl (omega (arith, size)) (omega (arith, size, place)) same in
+      let fewer : length target ≡ n - 1 =
+      length_removed at (rows_in w) (omega (arith, rows_count w)) ∙ ap (λ (q : ℕ). q - 1) (rows_count w) in
+      let filled : replicate m 0 ++ free ≡ zeros (n - 1) (drop 130 w) =
+      rw same (sym (zeros_two (n - 1) (drop 130 w) (omega (arith, packed.rows))
+      ∙ ap (λ (q : ℕ). 0 ∷ 0 ∷ zeros q (drop 130 w)) (omega arith))) in
+      let rows : joined row_words (take at (rows_in w)) ++ (later ++ (replicate m 0 ++ free))
+      ≡ joined row_words target ++ zeros (n - 1) (drop 130 w) =
+      ap (λ (q : List ℕ). joined row_words (take at (rows_in w)) ++ (later ++ q)) filled
+      ∙ sym (append_assoc (joined row_words (take at (rows_in w))) later (zeros (n - 1) (drop 130 w)))
+      ∙ ap (λ (q : List ℕ). q ++ zeros (n - 1) (drop 130 w))
+      (sym (joined_append row_words (take at (rows_in w)) (drop (suc at) (rows_in w)))) in
+      ap (λ (q : List ℕ). set q 1 (word q 1 - 1)) moved
+      ∙ ap (λ (q : List ℕ). word w 0 ∷ (n - 1) ∷ q) rows
+      ∙ sym (object_laid (word w 0) target (drop 130 w) (n - 1) fewer)
+
+-- ---- One row's second word
+
 value_stored : (w : List ℕ) (i k v : ℕ) → StartsPacked w → i < word w 1 → (row_at (rows_in w) i).key ≡ k
     → set w (2 + 2 * i + 1) v ≡ with_rows w (set (rows_in w) i (row k v))
 value_stored w i k v packed l e =
-    let start = stands_start w packed in
-    let same : word w (2 + 2 * i) ≡ k = ap (λ (r : Row). r.key) (stands_read w w (rows_in w) start i l) ∙ e in
+    let rest = zeros (word w 1) (drop 130 w) in
+    let words : w ≡ laid (word w 0) (word w 1) (rows_in w) rest =
+    packed.words ∙ object_laid (word w 0) (rows_in w) (drop 130 w) (word w 1) (rows_count w) in
+    let within : i < length (rows_in w) = omega (arith, rows_count w) in
+    let same : word w (2 + 2 * i) ≡ k =
+    ap (λ (q : List ℕ). word q (2 + 2 * i)) words
+    ∙ laid_key (word w 0) (word w 1) (rows_in w) rest i within ∙ e in
     ap (λ (q : List ℕ). set q (2 + 2 * i + 1) v) (sym (set-get_or w (2 + 2 * i) 0) ∙ ap (set w (2 + 2 * i)) same)
-    ∙ stands_end w _ _ (stands_stored w w (rows_in w) start i l k v)
-
--- ---- A gap opened: the carried row, put in at i of the rows that stand, gives the rows that are to be
-
-abbrev pub Opening : List ℕ → List Row → List ℕ → ℕ → Row → Type 0
-Opening w target part i carried = (rs : List Row) × Stands w part rs × (put_at i carried rs ≡ target)
-
-pub opening_start : (w : List ℕ) (i : ℕ) (r : Row) → StartsPacked w → Opening w (put_at i r (rows_in w)) w i r
-opening_start w i r packed = (rows_in w, stands_start w packed, refl)
-
-module _ (w : List ℕ) (target : List Row) (part : List ℕ) (i k v : ℕ)
-    (opening : Opening w target part i (row k v)) where
-  pub opening_next : i < word w 1 → Opening w target (set (set part (2 + 2 * i) k) (2 + 2 * i + 1) v) (i + 1)
-      (row (word part (2 + 2 * i)) (word part (2 + 2 * i + 1)))
-  opening_next l =
-      let rs = opening.0 in
-      let s = opening.1 in
-      let within : i < length rs = omega (arith, s.count) in (
-        set rs i (row k v),
-        stands_stored w part rs s i l k v,
-        rw (add-one, stands_read w part rs s i l) (put_next rs i (row k v) (row 0 0) within ∙ opening.2),
-      )
-
-  pub opening_end : (n : ℕ) → n ≡ word w 1 → i ≡ n → n < 64
-      → set (set (set part (2 + 2 * n) k) (2 + 2 * n + 1) v) 1 (n + 1) ≡ with_rows w target
-  opening_end n size at l =
-      let rs = opening.0 in
-      let s = opening.1 in
-      let kind = word w 0 in
-      let rest = drop 130 w in
-      let count : length rs ≡ n = s.count ∙ sym size in
-      let words : part ≡ laid kind n rs (0 ∷ 0 ∷ zeros (n + 1) rest) =
-      s.words ∙ ap (λ (m : ℕ). laid kind m rs (zeros m rest)) (sym size) ∙ ap (laid kind n rs) (zeros_two n rest l) in
-      let rows : rs ++ (row k v ∷ []) ≡ target =
-      sym (put_last_lem rs (row k v)) ∙ ap (λ (m : ℕ). put_at m (row k v) rs) (count ∙ sym at) ∙ opening.2 in
-      let more : length target ≡ n + 1 =
-      ap length (sym rows) ∙ length-append rs (row k v ∷ []) ∙ ap (λ (m : ℕ). m + 1) count in
-      ap (λ (q : List ℕ). set (set (set q (2 + 2 * n) k) (2 + 2 * n + 1) v) 1 (n + 1)) words
-      ∙ ap (λ (m : ℕ).
-      set (set (set (laid kind n rs (0 ∷ 0 ∷ zeros (n + 1) rest)) (2 + 2 * m) k) (2 + 2 * m + 1) v) 1 (n + 1))
-      (sym count)
-      ∙ ap (λ (q : List ℕ). set q 1 (n + 1)) (laid_pushed kind n rs (zeros (n + 1) rest) 0 0 k v)
-      ∙ ap (λ (q : List Row). laid kind (n + 1) q (zeros (n + 1) rest)) rows
-      ∙ sym (object_laid kind target rest (n + 1) more)
-
--- ---- A gap closed: leaving out row i of those that stand gives the rows that are to be
-
-abbrev pub Closing : List ℕ → List Row → List ℕ → ℕ → Type 0
-Closing w target part i = (rs : List Row) × Stands w part rs × (removed_at i rs ≡ target)
-
-pub closing_start : (w : List ℕ) (i : ℕ) → StartsPacked w → Closing w (removed_at i (rows_in w)) w i
-closing_start w i packed = (rows_in w, stands_start w packed, refl)
-
-module _ (w : List ℕ) (target : List Row) (part : List ℕ) (i : ℕ) (closing : Closing w target part i) where
-  pub closing_next : i + 1 < word w 1 → Closing w target
-      (set (set part (2 + 2 * i) (word part (2 + 2 * i + 2))) (2 + 2 * i + 1) (word part (2 + 2 * i + 3))) (i + 1)
-  closing_next l =
-      let rs = closing.0 in
-      let s = closing.1 in
-      let next : row (word part (2 + 2 * i + 2)) (word part (2 + 2 * i + 3)) ≡ row_at rs (suc i) =
-      ap₂ (λ (a b : ℕ). row (word part a) (word part b)) (omega arith) (omega arith) ∙ stands_read w part rs s (i + 1) l
-      ∙ ap (row_at rs) (add-one i) in (
-        set rs i (row (word part (2 + 2 * i + 2)) (word part (2 + 2 * i + 3))),
-        stands_stored w part rs s i (omega arith) _ _,
-        rw (add-one, next) (removed_next rs i (row 0 0) (omega (arith, s.count)) ∙ closing.2),
-      )
-
-  pub closing_end : (last : ℕ) → i ≡ last → last + 1 ≡ word w 1 → word w 1 ≤ 64
-      → set (set (set part (2 + 2 * last) 0) (2 + 2 * last + 1) 0) 1 last ≡ with_rows w target
-  closing_end last at size l =
-      let rs = closing.0 in
-      let s = closing.1 in
-      let kind = word w 0 in
-      let rest = drop 130 w in
-      let e : i + 1 ≡ word w 1 = omega arith in
-      let stored = stands_stored w part rs s i (omega arith) 0 0 in
-      let front : set rs i (row 0 0) ≡ take i rs ++ (row 0 0 ∷ []) =
-      set_split rs i (row 0 0) (omega (arith, s.count)) ∙ ap (λ (q : List Row). take i rs ++ (row 0 0 ∷ q))
-      (drop_of_length-le rs {i = suc i} (omega (arith, s.count))) in
-      let free : 0 ∷ 0 ∷ zeros (word w 1) rest ≡ zeros i rest =
-      ap (λ (m : ℕ). 0 ∷ 0 ∷ zeros m rest) (sym e) ∙ sym (zeros_two i rest (omega arith)) in
-      let rows : take i rs ≡ target = sym (removed_last rs i (omega (arith, s.count))) ∙ closing.2 in
-      rw (← at)
-      (ap (λ (q : List ℕ). set q 1 i) stored.words
-      ∙ ap (λ (q : List Row). laid kind i q (zeros (word w 1) rest)) front
-      ∙ laid_snoc kind i (take i rs) (zeros (word w 1) rest) (row 0 0)
-      ∙ ap₂ (laid kind i) rows free
-      ∙ sym (object_laid kind target rest i (ap length (sym rows) ∙ length-take-le i rs (omega (arith, s.count)))))
+    ∙ ap (λ (q : List ℕ). set (set q (2 + 2 * i) k) (2 + 2 * i + 1) v) words
+    ∙ laid_stored (word w 0) (word w 1) (rows_in w) rest i within k v
+    ∙ sym (object_laid (word w 0) (set (rows_in w) i (row k v)) (drop 130 w) (word w 1)
+    (length-set (rows_in w) i (row k v) ∙ rows_count w))
 
 -- ---- The rows after an operation
 
-pub kept : (w : List ℕ) (rs : List Row) → StartsPacked w → rs ≡ rows_in w → w ≡ with_rows w rs
-kept w rs packed e = packed.words ∙ ap (with_rows w) (sym e)
+-- Rows that are the part's, and the place of a key among them.
+module _ (w : List ℕ) (packed : StartsPacked w) (rows : List Row) (own : rows ≡ rows_in w) (k at : ℕ)
+    (here : at ≡ position_of k rows) where
+  place : at ≡ position_of k (rows_in w)
+  place = here ∙ ap (position_of k) own
 
-pub push_room : (w : List ℕ) (o : Operation) → o.number ≡ 1 → length (next_named o (rows_in w)) ≤ 64 → word w 1 < 64
-push_room w o e l =
-    omega (arith, ap length (next_push o (rows_in w) e), length-append (rows_in w) (row o.key 0 ∷ []), rows_count w)
+  held : {b : Bool} → present k rows ≡ b → present k (rows_in w) ≡ b
+  held h = ap (present k) (sym own) ∙ h
 
-module _ (w : List ℕ) (n : ℕ) (size : n ≡ word w 1) where
-  pub put_past : (r : Row) → put_at n r (rows_in w) ≡ rows_in w ++ (r ∷ [])
-  put_past r = ap (λ (m : ℕ). put_at m r (rows_in w)) (size ∙ sym (rows_count w)) ∙ put_last_lem (rows_in w) r
+  kept : (rs : List Row) → rs ≡ rows_in w → w ≡ with_rows w rs
+  kept rs e = packed.words ∙ ap (with_rows w) (sym e)
 
-  pub last_removed : 0 < n → removed_at (n - 1) (rows_in w) ≡ take (length (rows_in w) - 1) (rows_in w)
-  last_removed l =
-      removed_last (rows_in w) (n - 1) (omega (arith, rows_count w))
-      ∙ ap (λ (m : ℕ). take (m - 1) (rows_in w)) (size ∙ sym (rows_count w))
+  pub within : present k rows ≡ true → at < word w 1
+  within h = omega (arith, place, rows_count w, (there k (rows_in w) (held h)).within)
 
-  pub none_removed : n ≤ 0 → take (length (rows_in w) - 1) (rows_in w) ≡ rows_in w
-  none_removed l = take_all (length (rows_in w) - 1) (rows_in w) (omega (arith, rows_count w))
-
-module _ (w : List ℕ) (k at : ℕ) (here : at ≡ position_of k (rows_in w)) where
-  pub within : present k (rows_in w) ≡ true → at < word w 1
-  within h = omega (arith, rows_count w, (there k (rows_in w) h).within)
-
-  pub room : (v : ℕ) → present k (rows_in w) ≡ false → length (inserted k v (rows_in w)) ≤ 64
+  pub room : (v : ℕ) → present k rows ≡ false → length (inserted k v (rows_in w)) ≤ 64
       → (at ≤ word w 1) × (word w 1 < 64)
   room v h l = (
-    omega (arith, rows_count w, (absent k (rows_in w) h).within),
-    omega (arith, rows_count w, inserted_more k (rows_in w) v h),
+    omega (arith, place, rows_count w, (absent k (rows_in w) (held h)).within),
+    omega (arith, rows_count w, inserted_more k (rows_in w) v (held h)),
   )
 
-  pub put_inserted : (v : ℕ) → present k (rows_in w) ≡ false → put_at at (row k v) (rows_in w) ≡ inserted k v
-      (rows_in w)
-  put_inserted v h = rw here (sym ((absent k (rows_in w) h).inserts v))
+  pub put_inserted : (v : ℕ) → present k rows ≡ false
+      → with_rows w (put_at at (row k v) (rows_in w)) ≡ with_rows w (inserted k v (rows_in w))
+  put_inserted v h = ap (with_rows w) (rw place (sym ((absent k (rows_in w) (held h)).inserts v)))
 
-  pub removed_deleted : present k (rows_in w) ≡ true → removed_at at (rows_in w) ≡ deleted k (rows_in w)
-  removed_deleted h = rw here (sym (there k (rows_in w) h).deletes)
+  pub inserted_kept : (v : ℕ) → present k rows ≡ true → w ≡ with_rows w (inserted k v (rows_in w))
+  inserted_kept v h = kept _ ((there k (rows_in w) (held h)).inserts v)
 
-  pub stored_modified : StartsPacked w → (v : ℕ) → present k (rows_in w) ≡ true
+  pub removed_deleted : present k rows ≡ true
+      → with_rows w (removed_at at (rows_in w)) ≡ with_rows w (deleted k (rows_in w))
+  removed_deleted h = ap (with_rows w) (rw place (sym (there k (rows_in w) (held h)).deletes))
+
+  pub deleted_kept : present k rows ≡ false → w ≡ with_rows w (deleted k (rows_in w))
+  deleted_kept h = kept _ (absent k (rows_in w) (held h)).deletes
+
+  pub stored_modified : (v : ℕ) → present k rows ≡ true
       → set w (2 + 2 * at + 1) v ≡ with_rows w (modified k v (rows_in w))
-  stored_modified packed v h =
-      let t = there k (rows_in w) h in
-      value_stored w at k v packed (within h) (rw here t.key)
-      ∙ ap (with_rows w) (ap (λ (m : ℕ). set (rows_in w) m (row k v)) here ∙ sym (t.modifies v))
+  stored_modified v h =
+      let t = there k (rows_in w) (held h) in
+      value_stored w at k v packed (within h) (rw place t.key)
+      ∙ ap (with_rows w) (ap (λ (m : ℕ). set (rows_in w) m (row k v)) place ∙ sym (t.modifies v))
+
+  pub modified_kept : (v : ℕ) → present k rows ≡ false → w ≡ with_rows w (modified k v (rows_in w))
+  modified_kept v h = kept _ ((absent k (rows_in w) (held h)).modifies v)

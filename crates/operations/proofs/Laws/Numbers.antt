@@ -1,6 +1,7 @@
 -- Operations and kinds by number.
 use Rattle.std.specs.Prelude.{ℕ, ◌≤◌, ◌<◌, ◌≡◌, refl, true, false, leb}
-use Rattle.std.proofs.Common.{sym, ◌∙◌}
+use Rattle.std.proofs.Common.{sym, ap, ◌∙◌}
+use Rattle.std.proofs.Math.Option.{some, some-injective}
 use native.Mathlib.Omega.{arith}
 use borrow.Author.Tests.{leb-true, leb-false, le-leb, lt-leb}
 use Rattle.operations.specs.PairRules.{OfKind, Numbered, kind_numbered}
@@ -8,6 +9,9 @@ use Rattle.operations.specs.Operations.{Kind, Stack, Set, Table, kind_number}
 use Rattle.operations.specs.Operations.{push, pop, top, set_insert, set_delete, member, table_insert, table_delete}
 use Rattle.operations.specs.Operations.{lookup, size, modify, Operation, on_stack, on_set, on_table, kind_of}
 use Rattle.operations.specs.Operations.{number_of}
+use Rattle.operations.specs.Kinds.{kind_in_model, number_of_kind}
+use Rattle.operations.specs.declared.Kind.{Kind as Named}
+use Rattle.operations.specs.declared.Kind.TheVariants as named
 use Rattle.operations.proofs.Laws.Cases.{split}
 
 -- ---- The kind that a kind's number tells
@@ -17,37 +21,31 @@ kinds Stack = omega arith
 kinds Set = omega arith
 kinds Table = omega arith
 
-abbrev pub Tells : ℕ → Kind → Type 0
-Tells x kind = (k : Kind) → x ≡ kind_number k → k ≡ kind
+-- The code's kind has its number.
+pub number_named : (kind : Named) (k : Kind) → kind_in_model kind ≡ some k → number_of_kind kind ≡ kind_number k
+number_named named.None k e = cc
+number_named named.Stack k e = ap kind_number (some-injective _ _ e)
+number_named named.Set k e = ap kind_number (some-injective _ _ e)
+number_named named.Table k e = ap kind_number (some-injective _ _ e)
 
-module _ (x : ℕ) where
-  pub tells_stack : x ≡ 1 → Tells x Stack
-  tells_stack e Stack f = refl
-  tells_stack e Set f = absurd (omega arith)
-  tells_stack e Table f = absurd (omega arith)
-
-  pub tells_set : x ≡ 2 → Tells x Set
-  tells_set e Stack f = absurd (omega arith)
-  tells_set e Set f = refl
-  tells_set e Table f = absurd (omega arith)
-
-  pub tells_table : (x ≡ 1 → ⊥) → (x ≡ 2 → ⊥) → Tells x Table
-  tells_table n m Stack f = absurd (n f)
-  tells_table n m Set f = absurd (m f)
-  tells_table n m Table f = refl
+pub named_stack : (kind : Named) → number_of_kind kind ≡ 1 → kind ≡ named.Stack
+named_stack named.None e = absurd (omega (arith, e))
+named_stack named.Stack e = refl
+named_stack named.Set e = absurd (omega (arith, e))
+named_stack named.Table e = absurd (omega (arith, e))
 
 -- ---- The kind that an operation's number tells
 
 module _ (number : ℕ) where
-  pub numbered_stack : number ≤ 3 → kind_numbered number ≡ Stack
+  numbered_stack : number ≤ 3 → kind_numbered number ≡ Stack
   unfolding kind_numbered
   numbered_stack l = rw (le-leb number 3 l)
 
-  pub numbered_set : 3 < number → number ≤ 6 → kind_numbered number ≡ Set
+  numbered_set : 3 < number → number ≤ 6 → kind_numbered number ≡ Set
   unfolding kind_numbered
   numbered_set l m = rw (lt-leb number 3 l, le-leb number 6 m)
 
-  pub numbered_table : 6 < number → kind_numbered number ≡ Table
+  numbered_table : 6 < number → kind_numbered number ≡ Table
   unfolding kind_numbered
   numbered_table l =
       let m : 3 < number = omega arith in

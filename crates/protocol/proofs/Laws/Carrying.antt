@@ -7,7 +7,6 @@ use Rattle.std.proofs.lemmas.Bool.{eqb-false}
 use Rattle.operations.specs.Operations.{Kind, Row, Operation, kind_of, next, All}
 use Rattle.operations.specs.Log.{only, after, one}
 use Rattle.operations.proofs.Laws.Cases.{split, same, by_key, all_map}
-use Rattle.operations.proofs.Laws.Objects.{object}
 use Rattle.operations.specs.Operations.{adds}
 use Rattle.store.specs.Store.{Status, absent, Object, Logged, Store, status_of, object_of, on_object}
 use Rattle.store.specs.Layout.{Representable, additions, base}

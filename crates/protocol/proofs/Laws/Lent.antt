@@ -1,26 +1,25 @@
 -- Operations lent as words: the one at each place, and what running the first of them leaves.
-use Rattle.std.specs.Prelude.{ℕ, zero, suc, ◌+◌, ◌*◌, ◌/◌, ◌≤◌, ◌<◌, ◌≡◌, refl, Bool, true, ◌↔◌, List, [], ◌∷◌, ◌++◌}
+use Rattle.std.specs.Prelude.{ℕ, zero, suc, ◌+◌, ◌/◌, ◌≤◌, ◌<◌, ◌≡◌, refl, Bool, true, ◌↔◌, List, [], ◌∷◌, ◌++◌}
 use Rattle.std.specs.Prelude.{leb, length, get_or, take, drop}
 use Rattle.std.proofs.Common.{sym, ap, ap₂, ◌∙◌, inl, inr, append-nil, add-one, arith, eq-eqb, ne_eqb, leb-true, le-leb}
 use Rattle.std.proofs.Common.{drop_of_length-le, take-suc, drop-cons}
 use Rattle.std.proofs.Math.Bool.{and-eq-true_iff}
+use Rattle.std.proofs.Math.ListN.{get_or-map}
+use Rattle.std.proofs.lemmas.List.{length-map}
 use Rattle.operations.specs.Operations.{Operation, Answer, adds}
 use Rattle.operations.specs.Log.{Entry}
 use Rattle.operations.proofs.Laws.Cases.{same}
 use Rattle.store.specs.Store.{Store, object_of, on_object}
 use Rattle.store.specs.Dependency.{Any}
-use Rattle.store.specs.Layout.{Format, word, additions, base}
+use Rattle.store.specs.Layout.{Format, additions, base}
 use Rattle.store.proofs.Laws.Changes.{on_append}
 use Rattle.protocol.specs.Calls.{LentOperation, lent_operation, operations_in, requested, answer_to, run, run_all}
 use Rattle.protocol.specs.Calls.{answers_to, limits}
+use Rattle.protocol.specs.Lent.{lent_from, lent_operations}
 use Rattle.protocol.specs.Terms.{SomeCrowded}
 use Rattle.protocol.proofs.Laws.Keeping.{additions_last}
 use Rattle.protocol.proofs.Laws.Reasons.{crowded}
 pub use Rattle.protocol.specs.Terms.{needing, needed_of}
-
--- The operation at place i.
-abbrev pub lent_at : List ℕ → ℕ → LentOperation
-lent_at l i = lent_operation (word l (4 * i)) (word l (4 * i + 1)) (word l (4 * i + 2)) (word l (4 * i + 3))
 
 pub lent_count : (l : List ℕ) → length (operations_in l) ≡ length l / 4
 lent_count [] = refl
@@ -29,38 +28,32 @@ lent_count (o ∷ number ∷ []) = refl
 lent_count (o ∷ number ∷ k ∷ []) = refl
 lent_count (o ∷ number ∷ k ∷ v ∷ l) = omega (arith, lent_count l)
 
-pub lent_at_lem : (l : List ℕ) (i : ℕ) (d : LentOperation) → 4 * i + 4 ≤ length l → get_or (operations_in l) i d
-    ≡ lent_at l i
-lent_at_lem [] i d e = absurd (omega (arith, e))
-lent_at_lem (o ∷ []) i d e = absurd (omega (arith, e))
-lent_at_lem (o ∷ number ∷ []) i d e = absurd (omega (arith, e))
-lent_at_lem (o ∷ number ∷ k ∷ []) i d e = absurd (omega (arith, e))
-lent_at_lem (o ∷ number ∷ k ∷ v ∷ l) zero d e = refl
-lent_at_lem (o ∷ number ∷ k ∷ v ∷ l) (suc i) d e =
-    lent_at_lem l i d (omega (arith, e))
-    ∙ (λ j. lent_operation (moved (4 * i) (4 * suc i) (omega arith) j)
-    (moved (4 * i + 1) (4 * suc i + 1) (omega arith) j) (moved (4 * i + 2) (4 * suc i + 2) (omega arith) j)
-    (moved (4 * i + 3) (4 * suc i + 3) (omega arith) j))
-  where
-    moved : (n m : ℕ) → suc (suc (suc (suc n))) ≡ m → word l n ≡ word (o ∷ number ∷ k ∷ v ∷ l) m
-    moved n m = ap (word (o ∷ number ∷ k ∷ v ∷ l))
-
 -- What is read past the end.
 abbrev pub no_operation : LentOperation
 no_operation = lent_operation 0 0 0 0
 
--- The operations from place i on are that one and the later ones,
-pub from_place : (l : List ℕ) (i : ℕ) → i < length l / 4
-    → drop i (operations_in l) ≡ lent_at l i ∷ drop (i + 1) (operations_in l)
-from_place l i within =
-    let qs : List LentOperation = operations_in l in
-    drop-cons qs i no_operation (omega (arith, within, lent_count l))
-    ∙ ap₂ (λ (q : LentOperation) (n : ℕ). q ∷ drop n qs) (lent_at_lem l i no_operation (omega (arith, within)))
-    (sym (add-one i))
+-- Of operations by their four words, the one at place i.
+abbrev pub lent_at : List (List ℕ) → ℕ → LentOperation
+lent_at lent i = lent_from (get_or lent i [])
 
--- and from the end on there is none.
-pub none_left : (l : List ℕ) (i : ℕ) → length l / 4 ≤ i → drop i (operations_in l) ≡ []
-none_left l i past = drop_of_length-le (operations_in l) {i = i} (omega (arith, past, lent_count l))
+module _ (lent : List (List ℕ)) where
+  pub lent_length : length (lent_operations lent) ≡ length lent
+  lent_length = length-map lent lent_from
+
+  pub lent_at_lem : (i : ℕ) → get_or (lent_operations lent) i no_operation ≡ lent_at lent i
+  lent_at_lem i = get_or-map lent_from lent i []
+
+  -- The operations from place i on are that one and the later ones,
+  pub from_place : (i : ℕ) → i < length lent
+      → drop i (lent_operations lent) ≡ lent_at lent i ∷ drop (i + 1) (lent_operations lent)
+  from_place i within =
+      let qs : List LentOperation = lent_operations lent in
+      drop-cons qs i no_operation (omega (arith, within, lent_length))
+      ∙ ap₂ (λ (q : LentOperation) (n : ℕ). q ∷ drop n qs) (lent_at_lem i) (sym (add-one i))
+
+  -- and from the end on there is none.
+  pub none_left : (i : ℕ) → length lent ≤ i → drop i (lent_operations lent) ≡ []
+  none_left i past = drop_of_length-le (lent_operations lent) {i = i} (omega (arith, past, lent_length))
 
 module _ (format : Format) (t : ℕ) where
   run_append : (first later : List LentOperation) (s : Store)

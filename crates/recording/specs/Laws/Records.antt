@@ -1,9 +1,10 @@
 -- A call's part of a record, completed with a reply's, is the record of the call and its reply, and fits.
+use Rattle.std.specs.Prelude as code
 use Rattle.std.specs.Prelude.{ℕ, suc, ◌-◌, ◌*◌, ◌%◌, ◌≤◌, ◌≡◌, refl, Bool, true, false, cond, not, ◌&&◌, List, eqb, leb}
-use Rattle.std.specs.Prelude.{length, take}
-use Rattle.std.proofs.Common.{sym, ap, ◌∙◌, true≢false, arith, eqb-true, leb-true, le-leb, eq-eqb, ne_eqb, length-take}
-use Rattle.std.proofs.lemmas.Bool.{false≢true, not-true}
-use Rattle.std.proofs.Math.Bool.{and-false, and-eq-true_iff}
+use Rattle.std.specs.Prelude.{length, take, Some, None}
+use Rattle.std.proofs.Common.{sym, ap, ◌∙◌, arith, eqb-true, leb-true, le-leb, eq-eqb, ne_eqb, length-take}
+use Rattle.std.proofs.lemmas.Bool.{false≢true, not-true, eqb-false}
+use Rattle.std.proofs.Math.Bool.{and-eq-true_iff}
 use Rattle.std.proofs.Math.Option.{none, some}
 use Rattle.bitset.specs.Bitset.{members}
 use Rattle.protocol.specs.Replies as protocol
@@ -19,9 +20,8 @@ use Rattle.journal.specs.Coded.{front, argument_count, answer_count, reply_of, r
 use Rattle.journal.specs.Journal.{record_with, record_of_reply}
 use Rattle.journal.proofs.Laws.Members.{members_ascending, members_few}
 use Rattle.journal.specs.declared.Record.{Record}
-use Rattle.recording.specs.Recording.{or_none, letter_of, arguments_asked, whole, given_to, Recorded}
-use Rattle.recording.specs.Parts.{operations_asked, Begins, Called, Completed}
-use Rattle.recording.specs.declared.Made.{Made}
+use Rattle.recording.specs.Recording.{letter_of, arguments_asked, whole, given_to, Recorded}
+use Rattle.recording.specs.Parts.{operations_asked, Begins, Called, With, Completed}
 
 -- ---- A call's letter and arguments
 
@@ -33,15 +33,6 @@ has_reply_lem (batch t operations) c e = refl
 has_reply_lem (finish t list) c e = refl
 has_reply_lem (cancel t list) c e = refl
 has_reply_lem (contents o) c e = absurd (false≢true e)
-
-has_letter : (call : Call) → whole call ≡ true → eqb (letter_of call) 0 ≡ false
-has_letter (set_up kinds) e = refl
-has_letter (begin t) e = refl
-has_letter (operate t o number k v) e = refl
-has_letter (batch t operations) e = refl
-has_letter (finish t list) e = refl
-has_letter (cancel t list) e = refl
-has_letter (contents o) e = absurd (false≢true e)
 
 recorded_with : (call : Call) (reply : Reply) → whole call ≡ true
     → record_with call reply ≡ some (recorded (letter_of call) (arguments_asked call) reply)
@@ -102,18 +93,32 @@ pub record Behind (reply : protocol.Reply) (list : List ℕ) (listed : ℕ) (num
   pub answers : Begins (answer_numbers (answers_in reply)) numbers
   pub named : front listed numbers ≡ take (numbers_of reply).count list
 
-module _ (call : Call) (list : List ℕ) (few : length list ≤ 64) (c : Record) (told : Numbers) (count : ℕ)
-    (behind : List ℕ) (m : Made) (done : Completed c told count behind m) (named : Called (some call) c) where
+-- A call that is refused has no record.
+nothing_recorded : (call : Call) (reply : protocol.Reply) (list : List ℕ) → ((numbers_of reply).refusal ≡ 0 → ⊥)
+    → none ≡ record_of_reply call reply list
+nothing_recorded call protocol.ok list refused = absurd (refused refl)
+nothing_recorded call (protocol.answered answers) list refused = absurd (refused refl)
+nothing_recorded call (protocol.wait owners count) list refused = absurd (refused refl)
+nothing_recorded call protocol.finished list refused = absurd (refused refl)
+nothing_recorded call (protocol.committed count) list refused = absurd (refused refl)
+nothing_recorded call (protocol.circle count) list refused = absurd (refused refl)
+nothing_recorded call (protocol.cancelled count) list refused = absurd (refused refl)
+nothing_recorded call (protocol.counted rows) list refused = refl
+nothing_recorded call (protocol.refused reason) list refused = refl
+
+module _ (call : Call) (lettered : eqb (letter_of call) 0 ≡ false) (list : List ℕ) (few : length list ≤ 64)
+    (c : Record) (told : Numbers) (count : ℕ) (behind : List ℕ) (r : Record) (done : With c told count behind r)
+    (named : Called call c) where
   abbrev letter : ℕ
   letter = letter_of call
 
-  reply_coded : reply_of m.content ≡ coded letter (operations_asked call) told.code told.owners count behind
+  reply_coded : reply_of r ≡ coded letter (operations_asked call) told.code told.owners count behind
   reply_coded =
       λ j. coded ((done.letter ∙ named.letter) j) ((done.operations ∙ named.operations) j) (done.code j)
       (done.owners j) (done.listed j) (done.numbers j)
 
-  content_is : whole call ≡ true → (reply : Reply) → reply_of m.content ≡ reply
-      → record_of m.content ≡ recorded letter (arguments_asked call) reply
+  content_is : whole call ≡ true → (reply : Reply) → reply_of r ≡ reply
+      → record_of r ≡ recorded letter (arguments_asked call) reply
   content_is fits reply e =
       (λ j. recorded ((done.letter ∙ named.letter) j)
       (front (argument_count ((done.letter ∙ named.letter) j) ((done.operations ∙ named.operations) j))
@@ -121,32 +126,19 @@ module _ (call : Call) (list : List ℕ) (few : length list ≤ 64) (c : Record)
       ∙ ap (λ (n : ℕ). recorded letter (front n c.arguments) reply) (arguments_counted call fits)
       ∙ ap (λ (l : List ℕ). recorded letter l reply) named.arguments
 
-  -- A record is made.
   complete : (reply : protocol.Reply) (said : Reply) → record_of_reply call reply list ≡ record_with call said
-      → whole call ≡ true → told.refusal ≡ 0
-      → reply_of m.content ≡ said → reply_fits letter (arguments_asked call) said ≡ true
-      → Recorded (some call) reply list m
-  complete reply said of fits accepted e right =
-      let is : m.is ≡ true =
-      done.is ∙ (λ j. eqb (accepted j) 0 && not (eqb (named.letter j) 0)) ∙ ap not (has_letter call fits) in
+      → whole call ≡ true → reply_of r ≡ said → reply_fits letter (arguments_asked call) said ≡ true
+      → Recorded call reply list (Some r)
+  complete reply said of fits e right =
       let content = content_is fits said e in
       record {
-        is = (λ j. or_none (is j) (content j)) ∙ sym (recorded_with call said fits) ∙ sym of;
-        shape = λ made. ap shaped content ∙ (and-eq-true_iff (whole call) _).1 (fits, right);
-      }
-
-  -- None is.
-  not_made : (reply : protocol.Reply) → record_of_reply call reply list ≡ none → m.is ≡ false
-      → Recorded (some call) reply list m
-  not_made reply of is =
-      record {
-        is = ap (λ (b : Bool). or_none b (record_of m.content)) is ∙ sym of;
-        shape = λ made. absurd (true≢false (sym made ∙ is));
+        is = ap some content ∙ sym (recorded_with call said fits) ∙ sym of;
+        shape = ap shaped content ∙ (and-eq-true_iff (whole call) _).1 (fits, right);
       }
 
   -- The reply, by its code.
   replied : (code : ℕ) → told.code ≡ code → gives letter code ≡ true
-      → reply_of m.content
+      → reply_of r
       ≡ cond (eqb code 0) (wait (members told.owners))
       (cond (eqb code 1) (answered (front (answer_count letter (operations_asked call)) behind))
       (ended code (front count behind)))
@@ -155,59 +147,56 @@ module _ (call : Call) (list : List ℕ) (few : length list ≤ 64) (c : Record)
   -- A list ends it.
   ends : (reply : protocol.Reply) (code number : ℕ)
       → record_of_reply call reply list ≡ record_with call (ended code (take number list))
-      → told.refusal ≡ 0 → told.code ≡ code → leb 2 code ≡ true
+      → told.code ≡ code → leb 2 code ≡ true
       → front count behind ≡ take number list → whole call && gives letter code ≡ true
-      → Recorded (some call) reply list m
-  ends reply code number of accepted is high numbers given =
+      → Recorded call reply list (Some r)
+  ends reply code number of is high numbers given =
       let (fits, gave) = (and-eq-true_iff (whole call) (gives letter code)).0 given in
       let above = leb-true 2 code high in
-      complete reply (ended code (take number list)) of fits accepted
+      complete reply (ended code (take number list)) of fits
       (replied code is gave ∙ rw (ne_eqb code 0 (λ e. omega arith), ne_eqb code 1 (λ e. omega arith), numbers))
       (λ j. high j && gave j && le-leb (length (take number list)) 64 (omega (arith, length-take number list)) j)
 
-  pub record_made : (reply : protocol.Reply) → Tells reply told → Behind reply list count behind
-      → given_to call reply ≡ true → Recorded (some call) reply list m
-  record_made protocol.ok tells numbers given =
+  with_reply : (reply : protocol.Reply) → Tells reply told → Behind reply list count behind
+      → given_to call reply ≡ true → Recorded call reply list (Some r)
+  with_reply protocol.ok tells numbers given =
       let (fits, without) = (and-eq-true_iff (whole call) (not (has_reply letter))).0 given in
-      complete protocol.ok nothing refl fits tells.refusal
+      complete protocol.ok nothing refl fits
       (reply_coded ∙ rw (not-true (has_reply letter) without)) without
-  record_made (protocol.answered answers) tells numbers given =
+  with_reply (protocol.answered answers) tells numbers given =
       let (both, many) = (and-eq-true_iff (whole call && gives letter 1) _).0 given in
       let (fits, gave) = (and-eq-true_iff (whole call) (gives letter 1)).0 both in
       let counted = answers_asked call ∙ sym (eqb-true (length answers) _ many) in
-      complete (protocol.answered answers) (answered (answer_numbers answers)) refl fits tells.refusal
+      complete (protocol.answered answers) (answered (answer_numbers answers)) refl fits
       (replied 1 tells.code gave
       ∙ ap (λ (n : ℕ). answered (front n behind)) (ap (λ (n : ℕ). 2 * n) counted ∙ sym (numbers_counted answers))
       ∙ ap answered numbers.answers)
       (rw gave (eq-eqb _ _ (numbers_counted answers ∙ ap (λ (n : ℕ). 2 * n) (eqb-true (length answers) _ many))))
-  record_made (protocol.wait owners number) tells numbers given =
+  with_reply (protocol.wait owners number) tells numbers given =
       let (fits, gave) = (and-eq-true_iff (whole call) (gives letter 0)).0 given in
-      complete (protocol.wait owners number) (wait (members owners)) refl fits tells.refusal
+      complete (protocol.wait owners number) (wait (members owners)) refl fits
       (replied 0 tells.code gave ∙ ap (λ (set : ℕ). wait (members set)) tells.owners)
       (rw (gave, le-leb (length (members owners)) 64 (members_few owners), members_ascending owners))
-  record_made protocol.finished tells numbers given =
-      ends protocol.finished 2 0 refl tells.refusal tells.code refl numbers.named given
-  record_made (protocol.committed number) tells numbers given =
-      ends (protocol.committed number) 3 number refl tells.refusal tells.code refl numbers.named given
-  record_made (protocol.circle number) tells numbers given =
-      ends (protocol.circle number) 4 number refl tells.refusal tells.code refl numbers.named given
-  record_made (protocol.cancelled number) tells numbers given =
-      ends (protocol.cancelled number) 5 number refl tells.refusal tells.code refl numbers.named given
-  record_made (protocol.counted rows) tells numbers given =
-      not_made (protocol.counted rows) refl
-      (done.is ∙ (λ j. eqb (tells.refusal j) 0 && not (eqb (named.letter j) 0)) ∙ ap not given)
-  record_made (protocol.refused reason) tells numbers given =
-      not_made (protocol.refused reason) refl
-      (done.is ∙ (λ j. eqb (tells.refusal j) 0 && not (eqb c.letter 0)) ∙ rw (not-true (eqb reason 0) given))
+  with_reply protocol.finished tells numbers given =
+      ends protocol.finished 2 0 refl tells.code refl numbers.named given
+  with_reply (protocol.committed number) tells numbers given =
+      ends (protocol.committed number) 3 number refl tells.code refl numbers.named given
+  with_reply (protocol.circle number) tells numbers given =
+      ends (protocol.circle number) 4 number refl tells.code refl numbers.named given
+  with_reply (protocol.cancelled number) tells numbers given =
+      ends (protocol.cancelled number) 5 number refl tells.code refl numbers.named given
+  with_reply (protocol.counted rows) tells numbers given = absurd (false≢true (sym lettered ∙ given))
+  with_reply (protocol.refused reason) tells numbers given =
+      absurd (eqb-false reason 0 (not-true (eqb reason 0) given) (sym tells.refusal ∙ done.accepted))
 
--- No call has no record.
-pub none_made : (reply : protocol.Reply) (list : List ℕ) (c : Record) (told : Numbers) (count : ℕ) (behind : List ℕ)
-    (m : Made) → Completed c told count behind m → Called none c → Recorded none reply list m
-none_made reply list c told count behind m done named =
-    let accepted = eqb told.refusal 0 in
-    let is : m.is ≡ false =
-    done.is ∙ ap (λ (n : ℕ). accepted && not (eqb n 0)) named.letter ∙ and-false accepted in
-    record {
-      is = ap (λ (b : Bool). or_none b (record_of m.content)) is;
-      shape = λ made. absurd (true≢false (sym made ∙ is));
-    }
+module _ (call : Call) (lettered : eqb (letter_of call) 0 ≡ false) (list : List ℕ) (few : length list ≤ 64)
+    (c : Record) (told : Numbers) (count : ℕ) (behind : List ℕ) (named : Called call c) (reply : protocol.Reply)
+    (tells : Tells reply told) (numbers : Behind reply list count behind) (given : given_to call reply ≡ true) where
+  pub record_made : (r : code.Option Record) → Completed c told count behind r → Recorded call reply list r
+  record_made None refused =
+      record {
+        is = nothing_recorded call reply list (λ accepted. refused (tells.refusal ∙ accepted));
+        shape = tt;
+      }
+  record_made (Some r) done =
+      with_reply call lettered list few c told count behind r done named reply tells numbers given

@@ -1,8 +1,8 @@
 -- What a reply puts behind a call, and the records of a call and of a batch.
-use Rattle.std.specs.Prelude.{ℕ, ◌≤◌, min, ◌≡◌, refl, true, List, [], ◌∷◌, map, length, take}
+use Rattle.std.specs.Prelude as code
+use Rattle.std.specs.Prelude.{ℕ, ◌≤◌, min, ◌≡◌, refl, true, false, eqb, List, [], ◌∷◌, map, length, take}
 use Rattle.std.proofs.Common.{sym, ap, ◌∙◌, subst, arith, take_at, length-take-le}
 use Rattle.std.proofs.Math.Path.{subst⁻¹}
-use Rattle.std.proofs.Math.Option.{Option, none, some}
 use Rattle.std.proofs.Math.Seq.{take-nil}
 use Rattle.operations.specs.Operations as operations
 use Rattle.operations.specs.Stored.{answer_of}
@@ -11,7 +11,6 @@ use Rattle.replay.specs.Laws.Lists.{map_take}
 use Rattle.protocol.specs.Replies as protocol
 use Rattle.protocol.specs.Replies.{answer_numbers}
 use Rattle.protocol.specs.ReplyOf.{reply_with, reply_of, batched_of, answers_in, Filled}
-use Rattle.protocol.specs.Call.{Call, batch}
 use Rattle.protocol.proofs.Laws.Beside.{take_min, front_numbers}
 use Rattle.protocol.specs.declared.Batched.{Batched}
 use Rattle.protocol.specs.declared.Reply.{Reply}
@@ -20,19 +19,22 @@ use Rattle.protocol.specs.declared.Reply.TheVariants.{Cancelled, Counted, Refuse
 use Rattle.codes.specs.Codes.{numbers_of}
 use Rattle.codes.specs.declared.Numbers.{Numbers}
 use Rattle.lines.specs.Coded.{call_of}
-use Rattle.lines.specs.declared.Call as lines
+use Rattle.lines.specs.declared.Call.{Call}
+use Rattle.lines.specs.declared.Call.TheVariants.{SetUp, Begin, Operate, Batch, Finish, Cancel}
 use Rattle.journal.specs.Coded.{front}
 use Rattle.journal.specs.declared.Record.{Record}
-use Rattle.recording.specs.Recording.{given_to, given_to_call, Recorded}
+use Rattle.recording.specs.Recording.{letter_of, given_to, Recorded}
 use Rattle.recording.specs.Parts.{Begins, Called, NumbersPut, Completed}
-use Rattle.recording.specs.Laws.Records.{Tells, Behind, record_made, none_made}
-use Rattle.recording.specs.declared.Made.{Made}
+use Rattle.recording.specs.Laws.Records.{Tells, Behind, record_made}
 
--- The part of a call that is known.
-pub called_as : (kinds operations : List ℕ) {asked r : lines.Call} → asked ≡ r → (c : Record)
-    → Called (call_of r kinds operations) c → Called (call_of asked kinds operations) c
-called_as kinds operations told c =
-    subst⁻¹ (λ (call : lines.Call). Called (call_of call kinds operations) c) told
+-- No call of the code is contents.
+lettered : (call : Call) → eqb (letter_of (call_of call)) 0 ≡ false
+lettered (SetUp kinds) = refl
+lettered (Begin t) = refl
+lettered (Operate t o number k v) = refl
+lettered (Batch t operations) = refl
+lettered (Finish t) = refl
+lettered (Cancel t) = refl
 
 -- ---- A call that has one answer at most
 
@@ -86,16 +88,14 @@ module _ (reply : Reply) (list : List ℕ) (count : ℕ)
             ap (λ (n : ℕ). front n behind) (sym all) ∙ put.others other ∙ taken);
       }
 
-pub call_recorded : (call : Option Call) (reply : Reply) (list : List ℕ) → length list ≤ 64
-    → given_to_call call (reply_of reply) ≡ true
-    → (c : Record) → Called call c → (told : Numbers) → told ≡ numbers_of (reply_of reply)
+pub call_recorded : (call : Call) (reply : Reply) (list : List ℕ) → length list ≤ 64
+    → given_to (call_of call) (reply_of reply) ≡ true
+    → (c : Record) → Called (call_of call) c → (told : Numbers) → told ≡ numbers_of (reply_of reply)
     → (count : ℕ) → count ≡ min told.count (length list)
     → (behind : List ℕ) → NumbersPut told (take count list) behind
-    → (m : Made) → Completed c told count behind m → Recorded call (reply_of reply) list m
-call_recorded none reply list few given c named told is count counted behind put m done =
-    none_made (reply_of reply) list c told count behind m done named
-call_recorded (some call) reply list few given c named told is count counted behind put m done =
-    record_made call list few c told count behind m done named (reply_of reply)
+    → (r : code.Option Record) → Completed c told count behind r → Recorded (call_of call) (reply_of reply) list r
+call_recorded call reply list few given c named told is count counted behind put =
+    record_made (call_of call) (lettered call) list few c told count behind named (reply_of reply)
     (record {
       refusal = ap (λ (n : Numbers). n.refusal) is;
       code = ap (λ (n : Numbers). n.code) is;
@@ -128,12 +128,12 @@ front_answers b (counted, places) =
     map_take answer_of b.count b.answers ∙ ap (take b.count) places
     ∙ take_at (answers_in (batched_of b)) _ b.count (sym counted)
 
-pub batch_recorded : (t : ℕ) (words : List ℕ) (b : Batched) → Filled b → given_to (batch t words) (batched_of b) ≡ true
-    → (c : Record) → Called (some (batch t words)) c → (told : Numbers) → told ≡ numbers_of (reply_of b.reply)
+pub batch_recorded : (call : Call) (b : Batched) → Filled b → given_to (call_of call) (batched_of b) ≡ true
+    → (c : Record) → Called (call_of call) c → (told : Numbers) → told ≡ numbers_of (reply_of b.reply)
     → (behind : List ℕ) → Begins (front_numbers b.answers b.count) behind
-    → (m : Made) → Completed c told 0 behind m → Recorded (some (batch t words)) (batched_of b) [] m
-batch_recorded t words b full given c named told is behind put m done =
-    record_made (batch t words) [] (omega arith) c told 0 behind m done named (batched_of b)
+    → (r : code.Option Record) → Completed c told 0 behind r → Recorded (call_of call) (batched_of b) [] r
+batch_recorded call b full given c named told is behind put =
+    record_made (call_of call) (lettered call) [] (omega arith) c told 0 behind named (batched_of b)
     (subst⁻¹ (Tells (batched_of b)) is (told_beside _ b.reply))
     (record {
       answers = subst (λ (l : List operations.Answer). Begins (answer_numbers l) behind) (front_answers b full) put;

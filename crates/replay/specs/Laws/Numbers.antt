@@ -1,14 +1,14 @@
 -- Next rows and answer by an operation's number.
 use Rattle.std.specs.Prelude.{ℕ, ◌+◌, ◌-◌, ◌<◌, ◌≤◌, ◌≡◌, ◌⊎◌, true, false, not, List, [], ◌∷◌, ◌++◌, map, length, take}
-use Rattle.std.proofs.Common.{ap, sym, ◌∙◌, inl, inr, ⊎_elim, arith, length-append, length-take-le}
+use Rattle.std.proofs.Common.{ap, sym, ◌∙◌, inl, inr, ⊎_elim, arith, add-zero}
+use mir.Val.{bool_byte}
 use Rattle.std.proofs.Math.Option.{none, some}
 use Rattle.std.proofs.Math.ListN.{get_or-eq_default}
-use Rattle.operations.specs.Operations.{Row, row, numbered, stored, inserted, deleted, modified, present, found}
-use Rattle.operations.specs.Operations.{top_item, flag, valued, answering}
+use Rattle.operations.specs.Operations.{Row, row, numbered, stored, inserted, deleted, modified, present}
 use Rattle.operations.specs.declared.Operation.{Operation}
-use Rattle.operations.proofs.Laws.Cases.{same}
+use Rattle.operations.proofs.Laws.Cases.{same, split}
 use Rattle.operations.specs.Stored.{operation_of}
-use Rattle.replay.specs.Replay.{rows_of, next_named, next_by, answer_named, answer_by, BeginsWith}
+use Rattle.replay.specs.Replay.{rows_of, next_named, next_by, BeginsWith}
 use Rattle.replay.specs.Laws.Positions.{inserted_same, inserted_more, deleted_less, deleted_same, modified_same}
 use Rattle.replay.specs.Laws.Copies.{count_rows, kept, popped}
 
@@ -58,47 +58,6 @@ module _ (o : Operation) where
         let above-7 : 7 < o.number = past 7 n7 (past 6 n6 (past 5 n5 (past 4 n4 above-3))) in
         ap (λ q. next_by q rs) (unnamed (past 11 n11 (past 10 n10 (past 9 n9 (past 8 n8 above-7))))))))))
 
-    answer_at : {n : ℕ} → o.number ≡ n → answer_by (stored (λ k. k) n o.key o.value) rs ≡ answer_named o rs
-    answer_at e = sym (ap (λ q. answer_by q rs) (named e))
-
-    pub answer_done : (o.number ≡ 1) ⊎ (o.number ≡ 4) → answering 1 0 ≡ answer_named o rs
-    answer_done = ⊎_elim (λ e. answer_at e) (λ e. answer_at e)
-
-    pub answer_top : ((o.number ≡ 1) ⊎ (o.number ≡ 4) → ⊥) → 1 ≤ o.number → o.number < 4
-        → valued (top_item rs) ≡ answer_named o rs
-    answer_top n14 l h =
-        let above : 1 < o.number = past 1 (λ e. n14 (inl e)) l in
-        same o.number 2 (λ e. answer_at e) (λ n2. answer_at {n = 3} (omega arith))
-
-    pub answer_insert : o.number ≡ 7 → flag (not (present o.key rs)) ≡ answer_named o rs
-    answer_insert e = answer_at e
-
-    pub answer_lookup : o.number ≡ 9 → valued (found o.key rs) ≡ answer_named o rs
-    answer_lookup e = answer_at e
-
-    pub answer_size : o.number ≡ 10 → answering 1 (length rs) ≡ answer_named o rs
-    answer_size e = answer_at e
-
-    pub answer_present : (o.number ≡ 8) ⊎ (o.number ≡ 11) → flag (present o.key rs) ≡ answer_named o rs
-    answer_present = ⊎_elim (λ e. answer_at e) (λ e. answer_at e)
-
-    pub answer_present_set : ((o.number ≡ 1) ⊎ (o.number ≡ 4) → ⊥) → 4 ≤ o.number → o.number < 7
-        → flag (present o.key rs) ≡ answer_named o rs
-    answer_present_set n14 l h =
-        let above : 4 < o.number = past 4 (λ e. n14 (inr e)) l in
-        same o.number 5 (λ e. answer_at e) (λ n5. answer_at {n = 6} (omega arith))
-
-    -- Of a number that names no operation.
-    pub answer_below : o.number < 1 → answering 0 0 ≡ answer_named o rs
-    answer_below h = answer_at {n = 0} (omega arith)
-
-    pub answer_above : ((o.number ≡ 8) ⊎ (o.number ≡ 11) → ⊥) → (o.number ≡ 7 → ⊥)
-        → (o.number ≡ 9 → ⊥) → (o.number ≡ 10 → ⊥)
-        → 7 ≤ o.number → answering 0 0 ≡ answer_named o rs
-    answer_above n811 n7 n9 n10 l =
-        let above-9 : 9 < o.number = past 9 n9 (past 8 (λ e. n811 (inl e)) (past 7 n7 l)) in
-        sym (ap (λ q. answer_by q rs) (unnamed (past 11 (λ e. n811 (inr e)) (past 10 n10 above-9))))
-
 -- A number that is none of these leaves the copy as it is.
 module _ (o : Operation) (rows : List (List ℕ)) (count : ℕ) where
   pub unchanged_holds : (o.number ≡ 1 → ⊥) → (o.number ≡ 4 → ⊥) → ((o.number ≡ 5) ⊎ (o.number ≡ 8) → ⊥)
@@ -117,48 +76,32 @@ module _ (o : Operation) (rows : List (List ℕ)) (count : ℕ) (fits : count �
       → n ≡ length (next_named o (rows_of rows count))
   counted next n e l = sym (ap length e ∙ l (count_rows rows count fits))
 
-  pub count_push : o.number ≡ 1 → count + 1 ≡ length (next_named o (rows_of rows count))
-  count_push e =
-      counted _ _ (next_push o (rows_of rows count) e)
-      (λ l. length-append (rows_of rows count) (row o.key 0 ∷ []) ∙ ap (λ n. n + 1) l)
-
-  pub count_pop : o.number ≡ 2 → count - 1 ≡ length (next_named o (rows_of rows count))
-  count_pop e =
-      counted _ _ (next_pop o (rows_of rows count) e)
-      (λ l. length-take-le (length (rows_of rows count) - 1) (rows_of rows count) (omega arith) ∙ ap (λ n. n - 1) l)
-
-  pub count_pop_empty : o.number ≡ 2 → count ≡ 0 → 0 ≡ length (next_named o (rows_of rows count))
-  count_pop_empty e z = omega (arith, count_pop e)
-
   next_insert : (o.number ≡ 4) ⊎ (o.number ≡ 7)
       → (v : ℕ) × (next_named o (rows_of rows count) ≡ inserted o.key v (rows_of rows count))
   next_insert =
       ⊎_elim (λ e. (0, next_set_insert o (rows_of rows count) e))
       (λ e. (o.value, next_table_insert o (rows_of rows count) e))
 
-  pub count_insert_same : (o.number ≡ 4) ⊎ (o.number ≡ 7) → present o.key (rows_of rows count) ≡ true
-      → count ≡ length (next_named o (rows_of rows count))
-  count_insert_same e h =
+  pub count_insert : (o.number ≡ 4) ⊎ (o.number ≡ 7)
+      → count + bool_byte (not (present o.key (rows_of rows count))) ≡ length (next_named o (rows_of rows count))
+  count_insert e =
       let i = next_insert e in
-      counted _ _ i.1 (λ l. inserted_same o.key (rows_of rows count) i.0 h ∙ l)
+      counted _ _ i.1 (λ l.
+      split (present o.key (rows_of rows count))
+      (λ (h : present o.key (rows_of rows count) ≡ true).
+      rw h (inserted_same o.key (rows_of rows count) i.0 h ∙ l ∙ sym (add-zero count)))
+      (λ (h : present o.key (rows_of rows count) ≡ false).
+      rw h (inserted_more o.key (rows_of rows count) i.0 h ∙ ap (λ n. n + 1) l)))
 
-  pub count_insert_more : (o.number ≡ 4) ⊎ (o.number ≡ 7) → present o.key (rows_of rows count) ≡ false
-      → count + 1 ≡ length (next_named o (rows_of rows count))
-  count_insert_more e h =
-      let i = next_insert e in
-      counted _ _ i.1 (λ l. inserted_more o.key (rows_of rows count) i.0 h ∙ ap (λ n. n + 1) l)
-
-  pub count_delete_less : (o.number ≡ 5) ⊎ (o.number ≡ 8) → present o.key (rows_of rows count) ≡ true
-      → count - 1 ≡ length (next_named o (rows_of rows count))
-  count_delete_less e h =
-      counted _ _ (next_delete o (rows_of rows count) e)
-      (λ l. deleted_less o.key (rows_of rows count) h ∙ ap (λ n. n - 1) l)
-
-  pub count_delete_same : (o.number ≡ 5) ⊎ (o.number ≡ 8) → present o.key (rows_of rows count) ≡ false
-      → count ≡ length (next_named o (rows_of rows count))
-  count_delete_same e h =
-      counted _ _ (next_delete o (rows_of rows count) e)
-      (λ l. deleted_same o.key (rows_of rows count) h ∙ l)
+  pub count_delete : (o.number ≡ 5) ⊎ (o.number ≡ 8)
+      → count - bool_byte (present o.key (rows_of rows count)) ≡ length (next_named o (rows_of rows count))
+  count_delete e =
+      counted _ _ (next_delete o (rows_of rows count) e) (λ l.
+      split (present o.key (rows_of rows count))
+      (λ (h : present o.key (rows_of rows count) ≡ true).
+      rw h (deleted_less o.key (rows_of rows count) h ∙ ap (λ n. n - 1) l))
+      (λ (h : present o.key (rows_of rows count) ≡ false).
+      rw h (deleted_same o.key (rows_of rows count) h ∙ l ∙ omega arith)))
 
   pub count_same : (o.number ≡ 1 → ⊥) → (o.number ≡ 2 → ⊥) → ((o.number ≡ 4) ⊎ (o.number ≡ 7) → ⊥)
       → ((o.number ≡ 5) ⊎ (o.number ≡ 8) → ⊥)

@@ -1,9 +1,11 @@
 -- Rows by the position of a key: what is found there, and what inserting, deleting and modifying do there.
 use Rattle.std.specs.Prelude.{ℕ, ◌+◌, ◌-◌, ◌<◌, ◌≤◌, ◌≡◌, refl, ◌⊎◌, true, false, List, [], ◌∷◌, map, eqb, length}
-use Rattle.std.specs.Prelude.{get_or, set, drop}
+use Rattle.std.specs.Prelude.{get_or, set, Option, MatchOption}
 use Rattle.std.proofs.Common.{ap, sym, ◌∙◌, inl, inr, ⊎_elim, true≢false, add-one, arith, eq-eqb, ne_eqb, length-set}
-use Rattle.std.proofs.Common.{drop_of_length-le, drop-cons}
 use Rattle.std.proofs.Math.Option.{none, some}
+use Rattle.std.proofs.lemmas.Iterator.{index_from_first}
+use Rattle.std.specs.List.{AllWithin, HoldsAt}
+use Rattle.std.specs.Option.{unwrap_or}
 use Rattle.operations.specs.Operations.{Row, row, found, is_some, present, inserted, deleted, modified}
 use Rattle.operations.proofs.Laws.Rows.{order, by_order_less, by_order_equal, by_order_greater}
 use Rattle.replay.specs.Laws.Lists.{length_put, length_removed}
@@ -131,20 +133,16 @@ module _ (k : ℕ) (rs : List Row) where
       (λ a. rw (a.modifies v))
       (sought k rs)
 
--- A scan of pairs from the first: the position as seen from place i.
-module _ (k : ℕ) (pairs : List (List ℕ)) (i : ℕ) where
-  pub scan_on : i < length pairs → get_or (get_or pairs i []) 0 0 < k
-      → i + 1 + position_of k (map row_of (drop (i + 1) pairs)) ≡ i + position_of k (map row_of (drop i pairs))
-  scan_on h l = rw (drop-cons pairs i [] h, by_order_less _ _ _ l, add-one i) (omega arith)
-
-  pub scan_found : i < length pairs → k ≤ get_or (get_or pairs i []) 0 0 → i + position_of k (map row_of (drop i pairs))
-      ≡ i
-  scan_found h g =
-      rw (drop-cons pairs i [] h)
-      (order (get_or (get_or pairs i []) 0 0) k
-      (λ l. absurd (omega arith))
-      (λ e. rw (by_order_equal _ _ _ e) (omega arith))
-      (λ q. rw (by_order_greater _ _ _ q) (omega arith)))
-
-  pub scan_past : length pairs ≤ i → i + position_of k (map row_of (drop i pairs)) ≡ i
-  scan_past h = rw (drop_of_length-le pairs h) (omega arith)
+-- The first pair whose key is not below k, where there is one, stands at the position.
+pub position_first : (k : ℕ) (pairs : List (List ℕ)) (r : Option ℕ)
+    → MatchOption r (AllWithin (λ pair. get_or pair 0 0 < k) pairs 0 (length pairs))
+    (λ i. (i < length pairs) × HoldsAt (λ pair. k ≤ get_or pair 0 0) pairs i
+    × AllWithin (λ pair. get_or pair 0 0 < k) pairs 0 i)
+    → unwrap_or r (length pairs) ≡ position_of k (map row_of pairs)
+position_first k pairs r h =
+    sym (index_from_first (λ (ps : List (List ℕ)). position_of k (map row_of ps)) (λ pair. k ≤ get_or pair 0 0)
+    (λ pair. get_or pair 0 0 < k) refl
+    (λ pair ps g.
+    order (get_or pair 0 0) k (λ l. absurd (omega arith)) (λ e. by_order_equal _ _ _ e)
+    (λ q. by_order_greater _ _ _ q))
+    (λ pair ps l. by_order_less _ _ _ l ∙ sym (add-one _)) pairs r h)

@@ -1,20 +1,22 @@
--- Numbers put behind a word, one after the other.
-use Rattle.std.specs.Prelude.{ℕ, zero, suc, ◌+◌, ◌*◌, ◌^◌, ◌≤◌, ◌<◌, min, ◌≡◌, refl, true, false, not, ◌&&◌, List, []}
-use Rattle.std.specs.Prelude.{◌∷◌, ◌++◌, eqb, length, take, get_or}
-use Rattle.std.proofs.Common.{sym, ap, ◌∙◌, subst, append_assoc, append-nil, add-one, arith, length-append, take-suc}
-use Rattle.std.proofs.Math.Path.{subst⁻¹}
+-- Numbers behind a word, one after the other.
+use Rattle.std.specs.Prelude.{ℕ, zero, suc, ◌+◌, ◌*◌, ◌^◌, ◌≤◌, ◌<◌, ◌≡◌, refl, true, false, not, ◌&&◌, List, [], ◌∷◌}
+use Rattle.std.specs.Prelude.{◌++◌, map, eqb, length, take, get_or}
+use Rattle.std.proofs.Common.{sym, ap, ap₂, ◌∙◌, append_assoc, append-nil, add-one, arith, length-append, take-suc}
 use Rattle.operations.proofs.Laws.Cases.{split}
 use Rattle.bitset.specs.Bitset.{has, Members, Lowest, members_from, members}
 use Rattle.bitset.specs.Laws.{lowest_first}
 use Rattle.protocol.specs.Replies.{Reply, ok, answered, wait, finished, committed, circle, cancelled, counted, refused}
-use Rattle.protocol.proofs.Laws.Beside.{take_min}
-use Rattle.text.specs.Text.{decimal}
-use Rattle.text.specs.Fields.{Put}
-use Rattle.text.proofs.Laws.Decimals.{length_decimal}
-use Rattle.text.proofs.Laws.Putting.{nothing, then, length_put}
-use Rattle.protocol.specs.ReplyOf.{reply_of}
+use Rattle.operations.specs.Stored.{answer_of}
+use Rattle.operations.specs.declared.Answer.{Answer}
+use Rattle.protocol.specs.Replies.{answer_numbers}
+use Rattle.protocol.specs.ReplyOf.{reply_with, reply_of, batched_of}
+use Rattle.protocol.specs.declared.Batched.{Batched}
 use Rattle.protocol.specs.declared.Reply as code
-use Rattle.replies.specs.Printed.{word_of, printed_numbers, spaced}
+use Rattle.protocol.specs.declared.Reply.TheVariants.{Answers}
+use Rattle.protocol.proofs.Laws.Beside.{front_numbers, numbers_next}
+use Rattle.text.specs.Text.{ascii, decimal}
+use Rattle.text.proofs.Laws.Decimals.{length_decimal}
+use Rattle.replies.specs.Printed.{word_of, spaced, printed}
 
 pub fields_append : (ns ms : List ℕ) → spaced (ns ++ ms) ≡ spaced ns ++ spaced ms
 fields_append [] ms = refl
@@ -22,90 +24,54 @@ fields_append (n ∷ ns) ms =
     ap (λ (l : List ℕ). 32 ∷ (decimal n ++ l)) (fields_append ns ms)
     ∙ ap (λ (l : List ℕ). 32 ∷ l) (sym (append_assoc (decimal n) (spaced ns) (spaced ms)))
 
-field : (n : ℕ) → (32 ∷ []) ++ decimal n ≡ spaced (n ∷ [])
-field n = ap (λ (l : List ℕ). 32 ∷ l) (sym (append-nil (decimal n)))
+pub field_digits : (n : ℕ) → length (spaced (n ∷ [])) ≡ suc (length (decimal n))
+field_digits n = ap (λ (l : List ℕ). suc (length l)) (append-nil (decimal n))
 
 -- A number of k digits and its space.
 pub field_length : (k n : ℕ) → 1 ≤ k → n < 10 ^ k → length (spaced (n ∷ [])) ≤ suc k
-field_length k n some few = omega (arith, ap length (sym (field n)), length_decimal k n some few)
+field_length k n some few = omega (arith, field_digits n, length_decimal k n some few)
 
-pub field_put : (out : List ℕ) (at n : ℕ) {out₁ out₂ : List ℕ} {end end₂ : ℕ}
-    → at + length (spaced (n ∷ [])) ≤ length out
-    → Put out at (32 ∷ []) out₁ end → Put out₁ end (decimal n) out₂ end₂ → Put out at (spaced (n ∷ [])) out₂ end₂
-field_put out at n {out₂ = out₂} {end₂ = end₂} fits space digits =
-    subst (λ (text : List ℕ). Put out at text out₂ end₂) (field n) (then space (omega arith) digits)
+-- A number of 32 bits and its space.
+pub field_few : (n : ℕ) → n < 4_294_967_296 → length (spaced (n ∷ [])) ≤ 11
+field_few n fits = field_length 10 n (omega arith) (omega arith)
 
--- A number of 32 bits has ten digits at most.
-pub field_fits : (at n room : ℕ) → n < 4_294_967_296 → at + 11 ≤ room → at + length (spaced (n ∷ [])) ≤ room
-field_fits at n room few fits = omega (arith, field_length 10 n (omega arith) (omega arith))
+-- Numbers behind others.
+pub next_put : (text : List ℕ) (ns ms : List ℕ) → (text ++ spaced ns) ++ spaced ms ≡ text ++ spaced (ns ++ ms)
+next_put text ns ms =
+    append_assoc text (spaced ns) (spaced ms) ∙ ap (λ (l : List ℕ). text ++ l) (sym (fields_append ns ms))
 
--- A number, then others.
-pub fields : {out out₁ out₂ : List ℕ} {at end end₂ : ℕ} (a : ℕ) (others : List ℕ)
-    → at + length (spaced (a ∷ [])) ≤ length out
-    → Put out at (spaced (a ∷ [])) out₁ end → Put out₁ end (spaced others) out₂ end₂
-    → Put out at (spaced (a ∷ others)) out₂ end₂
-fields {out} {out₂ = out₂} {at} {end₂ = end₂} a others fits first second =
-    subst⁻¹ (λ (text : List ℕ). Put out at text out₂ end₂) (fields_append (a ∷ []) others) (then first fits second)
+-- What was appended makes a text longer.
+pub longer : (after before more : List ℕ) → after ≡ before ++ more → length after ≡ length before + length more
+longer after before more e = ap length e ∙ length-append before more
 
--- What the digits ask for, once the space is put.
-pub digits_fit : (out : List ℕ) (at n : ℕ) {out₁ : List ℕ} {end : ℕ} → at + length (spaced (n ∷ [])) ≤ length out
-    → Put out at (32 ∷ []) out₁ end
-    → end + length (decimal n) ≤ length out₁
-digits_fit out at n fits space =
-    omega (
-      arith,
-      ap length (field n),
-      space.behind,
-      ap length space.buffer ∙ length_put out at (32 ∷ []) (omega arith),
-    )
+-- The numbers at the front of a list: the first, then the others, until there are none.
+pub front_put : (text rest more : List ℕ) (n m x : ℕ) → rest ≡ x ∷ more → m + 1 ≡ n
+    → (text ++ spaced (x ∷ [])) ++ spaced (take m more) ≡ text ++ spaced (take n rest)
+front_put text rest more n m x first fewer =
+    next_put text (x ∷ []) (take m more)
+    ∙ ap (λ (l : List ℕ). text ++ spaced l) (ap₂ take (sym (add-one m) ∙ fewer) (sym first))
 
--- The first i bytes of a list are put.
-pub record Front (out₀ : List ℕ) (at : ℕ) (list out : List ℕ) (end i : ℕ) : Type 0 where
-  pub done : Put out₀ at (spaced (take i list)) out end
-  pub short : length (spaced (take i list)) ≤ 4 * i
+pub front_end : (n : ℕ) (rest : List ℕ) → (0 < n → length rest ≡ 0) → take n rest ≡ []
+front_end zero rest none = refl
+front_end (suc n) [] none = refl
+front_end (suc n) (x ∷ rest) none = absurd (omega (arith, none (omega arith)))
 
-pub start : (out : List ℕ) (at : ℕ) (list : List ℕ) → Front out at list out at 0
-start out at list = record { done = nothing out at; short = omega arith }
+-- The numbers of a list and the answers of a batch: those passed, and the next.
+module _ (text : List ℕ) {before after : List ℕ} where
+  pub number_put : (list : List ℕ) (i n : ℕ) → before ≡ text ++ spaced (take i list) → i < length list
+      → n ≡ get_or list i 0 → after ≡ before ++ spaced (n ∷ []) → after ≡ text ++ spaced (take (i + 1) list)
+  number_put list i n so more byte put =
+      put ∙ ap₂ (λ (l : List ℕ) (m : ℕ). l ++ spaced (m ∷ [])) so byte
+      ∙ next_put text (take i list) (get_or list i 0 ∷ [])
+      ∙ ap (λ (l : List ℕ). text ++ spaced l) (sym (ap (λ (k : ℕ). take k list) (add-one i) ∙ take-suc list i 0 more))
 
-pub kept : {out₀ : List ℕ} {at : ℕ} {list out : List ℕ} {end i : ℕ} → Front out₀ at list out end i → i ≤ length list
-    → at + 4 * length list ≤ length out₀
-    → length out ≡ length out₀
-kept {out₀} {at} {list} {i = i} so few fits =
-    ap length so.done.buffer ∙ length_put out₀ at (spaced (take i list)) (omega (arith, so.short))
-
-module _ {out₀ : List ℕ} {at : ℕ} {list out : List ℕ} {end i : ℕ} (so : Front out₀ at list out end i)
-    (more : i < length list)
-    (fits : at + 4 * length list ≤ length out₀) (byte : get_or list i 0 < 256) where
-  abbrev next : List ℕ
-  next = spaced (get_or list i 0 ∷ [])
-
-  four : length next ≤ 4
-  four = field_length 3 (get_or list i 0) (omega arith) (omega arith)
-
-  pub next_fits : end + length next ≤ length out
-  next_fits =
-      omega (arith, four, so.short, so.done.behind, kept so (omega arith) fits)
-
-  pub turn : {out₁ : List ℕ} {end₁ : ℕ} → Put out end next out₁ end₁ → Front out₀ at list out₁ end₁ (i + 1)
-  turn {out₁} {end₁} put =
-      let longer : spaced (take (i + 1) list) ≡ spaced (take i list) ++ next =
-      ap (λ (n : ℕ). spaced (take n list)) (add-one i) ∙ ap spaced (take-suc list i 0 more)
-      ∙ fields_append (take i list) (get_or list i 0 ∷ []) in
-      record {
-        done =
-            subst (λ (text : List ℕ). Put out₀ at text out₁ end₁) (sym longer)
-            (then so.done (omega (arith, so.short)) put);
-        short = omega (arith, ap length longer, length-append (spaced (take i list)) next, four, so.short);
-      }
-
--- All is put that the count names.
-pub whole : {out₀ : List ℕ} {at : ℕ} {list out : List ℕ} {end : ℕ} (count : ℕ)
-    → Front out₀ at list out end (min count (length list))
-    → Put out₀ at (spaced (take count list)) out end × (end ≤ at + 4 * length list)
-whole {out₀} {at} {list} {out} {end} count so = (
-  subst (λ (l : List ℕ). Put out₀ at (spaced l) out end) (take_min count list) so.done,
-  omega (arith, so.done.behind, so.short),
-)
+  pub answer_put : (answers : List Answer) (i : ℕ) (d : Answer) → before ≡ text ++ spaced (front_numbers answers i)
+      → i < length answers → after ≡ before ++ spaced (answer_numbers (answer_of (get_or answers i d) ∷ []))
+      → after ≡ text ++ spaced (front_numbers answers (i + 1))
+  answer_put answers i d so more put =
+      let next : List ℕ = answer_numbers (answer_of (get_or answers i d) ∷ []) in
+      put ∙ ap (λ (l : List ℕ). l ++ spaced next) so ∙ next_put text (front_numbers answers i) next
+      ∙ ap (λ (l : List ℕ). text ++ spaced l) (sym (numbers_next answers i d more))
 
 -- ---- The members of a set, the lowest first
 
@@ -126,65 +92,16 @@ length_from (suc n) h s few =
     ) in
     split (has s h) (λ (b : has s h ≡ true). rw b more) (λ (b : has s h ≡ false). rw b (omega (arith, later)))
 
-length_members : (s : ℕ) → length (spaced (members s)) ≤ 192
+pub length_members : (s : ℕ) → length (spaced (members s)) ≤ 192
 unfolding members
 length_members s = length_from 64 0 s (omega arith)
 
-nobody : members 0 ≡ []
-unfolding members members_from has
-nobody = refl
-
--- Of a set's members all but those left are put.
-pub record Walked (out₀ : List ℕ) (at set : ℕ) (out : List ℕ) (end left : ℕ) : Type 0 where
-  pub text : List ℕ
-  pub done : Put out₀ at text out end
-  pub all : text ++ spaced (members left) ≡ spaced (members set)
-
-pub walk_start : (out : List ℕ) (at set : ℕ) → Walked out at set out at set
-walk_start out at set = record { text = []; done = nothing out at; all = refl }
-
-module _ {out₀ : List ℕ} {at set : ℕ} {out : List ℕ} {end left : ℕ} (so : Walked out₀ at set out end left)
-    (fits : at + 192 ≤ length out₀) where
-  put_length : length so.text + length (spaced (members left)) ≤ 192
-  put_length =
-      omega (arith, length-append so.text (spaced (members left)), ap length so.all, length_members set)
-
-  pub walk_kept : length out ≡ length out₀
-  walk_kept = ap length so.done.buffer ∙ length_put out₀ at so.text (omega (arith, put_length))
-
-  pub walk_end : left ≡ 0 → Put out₀ at (spaced (members set)) out end × (end ≤ at + 192)
-  walk_end none =
-      let nothing_left : members left ≡ [] = ap members none ∙ nobody in
-      let put = subst (λ (x : List ℕ). Put out₀ at x out end)
-      (sym (append-nil so.text) ∙ ap (λ (l : List ℕ). so.text ++ spaced l) (sym nothing_left) ∙ so.all)
-      so.done in
-      (put, omega (arith, so.done.behind, put_length))
-
-  module _ (t rest : ℕ) (lowest : Lowest left t) (others : Members rest (λ h. has left h && not (eqb h t))) where
-    first_put : spaced (members left) ≡ spaced (t ∷ []) ++ spaced (members rest)
-    first_put = ap spaced (lowest_first left rest t lowest others) ∙ fields_append (t ∷ []) (members rest)
-
-    pub first_fits : end + length (spaced (t ∷ [])) ≤ length out
-    first_fits =
-        omega (
-          arith,
-          walk_kept,
-          put_length,
-          so.done.behind,
-          ap length first_put,
-          length-append (spaced (t ∷ [])) (spaced (members rest)),
-        )
-
-    pub walk_on : {out₁ : List ℕ} {end₁ : ℕ} → Put out end (spaced (t ∷ [])) out₁ end₁
-        → Walked out₀ at set out₁ end₁ rest
-    walk_on put =
-        record {
-          text = so.text ++ spaced (t ∷ []);
-          done = then so.done (omega (arith, put_length)) put;
-          all =
-              append_assoc so.text (spaced (t ∷ [])) (spaced (members rest))
-              ∙ ap (λ (x : List ℕ). so.text ++ x) (sym first_put) ∙ so.all;
-        }
+-- The lowest member of those left behind a text, and then the others.
+pub first_put : (text : List ℕ) (left t rest : ℕ) → Lowest left t → Members rest (λ h. has left h && not (eqb h t))
+    → (text ++ spaced (t ∷ [])) ++ spaced (members rest) ≡ text ++ spaced (members left)
+first_put text left t rest lowest others =
+    next_put text (t ∷ []) (members rest)
+    ∙ ap (λ (l : List ℕ). text ++ spaced l) (sym (lowest_first left rest t lowest others))
 
 pub word_length : (r : Reply) → length (word_of r) ≤ 9
 word_length ok = omega arith
@@ -197,14 +114,14 @@ word_length (cancelled count) = omega arith
 word_length (counted rows) = omega arith
 word_length (refused reason) = omega arith
 
--- ---- By the case of a reply
+-- ---- A batch's reply: the word, then the answers
 
-module _ {out : List ℕ} {at : ℕ} {after : List ℕ} {end : ℕ} (reply : code.Reply) {r : code.Reply}
-    (told : reply ≡ r) where
-  pub worded : Put out at (word_of (reply_of r)) after end → Put out at (word_of (reply_of reply)) after end
-  worded = subst⁻¹ (λ (x : code.Reply). Put out at (word_of (reply_of x)) after end) told
+module _ (b : Batched) (told : b.reply ≡ Answers) where
+  pub answers_word : printed (reply_of b.reply) [] ≡ ascii "answer"
+  unfolding printed
+  answers_word = ap (λ (r : code.Reply). printed (reply_of r) []) told
 
-  pub numbered : (list : List ℕ) → Put out at (spaced (printed_numbers (reply_of r) list)) after end → end ≤ at + 256
-      → Put out at (spaced (printed_numbers (reply_of reply) list)) after end × (end ≤ at + 256)
-  numbered list put few =
-      (subst⁻¹ (λ (x : code.Reply). Put out at (spaced (printed_numbers (reply_of x) list)) after end) told put, few)
+  pub answers_behind : ascii "answer" ++ spaced (front_numbers b.answers b.count) ≡ printed (batched_of b) []
+  unfolding printed
+  answers_behind =
+      ap (λ (r : code.Reply). printed (reply_with (map answer_of (take b.count b.answers)) r) []) (sym told)

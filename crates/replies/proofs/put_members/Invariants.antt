@@ -1,9 +1,9 @@
 -- `replies::put_members`: the members that are not left are put.
-use Rattle.replies.proofs.Laws.Printing.{Walked}
+use Rattle.std.proofs.Common.{◌≡◌, ◌++◌}
+use Rattle.bitset.specs.Bitset.{members}
+use Rattle.replies.specs.Printed.{spaced}
 use Rattle.replies.proofs.put_members.Given as goal
 
-abbrev pub invariant-loop-left : goal.invariant-loop-left
-invariant-loop-left l = Walked l.initial.out l.at l.set l.out l.end l.left
-
-abbrev pub decreases-loop-left : goal.decreases-loop-left
-decreases-loop-left l = l.left
+abbrev pub invariant-loop-member : goal.invariant-loop-member
+invariant-loop-member g l =
+    l.out.items ++ spaced (members l.member-iterator.set) ≡ l.initial.out.items ++ spaced (members l.fn.set)

@@ -1,22 +1,16 @@
 -- `replies::put_reply`: the word, then the numbers behind it.
-use native.Mathlib.Omega.{arith}
+use Rattle.std.proofs.Common.{List, ℕ, ◌≡◌, ◌∙◌, ap, ◌++◌, append_assoc, rules}
 use Rattle.protocol.specs.ReplyOf.{reply_of}
-use Rattle.text.proofs.Laws.Putting.{then}
-use Rattle.replies.specs.Printed.{printed}
+use Rattle.replies.specs.Printed.{word_of, printed_numbers, spaced, printed}
 use Rattle.replies.proofs.Laws.Printing.{word_length}
 use Rattle.replies.proofs.put_reply.Goals as goal
 
-pub put_numbers-requires : goal.put_numbers-requires
-put_numbers-requires c =
-    let word = c.put_word-end in
-    (omega (arith, word.ensures.behind, word.auto.out, word_length (reply_of c.args.reply), c.requires.0), c.requires.1)
-
-pub returns : goal.returns
+pub returns-clause-text : goal.returns-clause-text
 unfolding printed
-returns c =
-    let word = c.put_word-end in
-    let numbers = c.put_numbers in
-    let short = word_length (reply_of c.args.reply) in (
-      then word.ensures (omega (arith, short, c.requires.0)) numbers.ensures.0,
-      omega (arith, short, word.ensures.behind, numbers.ensures.1),
-    )
+returns-clause-text g c =
+    let reply = reply_of c.args.reply in
+    let numbers = spaced (printed_numbers reply c.args.list.now) in
+    let short = word_length reply in
+    let word : c.try_extend_from_slice.new.self.items ≡ c.args.out.now.items ++ word_of reply = search rules in
+    c.put_numbers.ensures.text ∙ ap (λ (l : List ℕ). l ++ numbers) word
+    ∙ append_assoc c.args.out.now.items (word_of reply) numbers

@@ -1,16 +1,9 @@
 -- Entries that are alike, and the first of them.
-use Rattle.std.specs.Prelude.{ℕ, zero, suc, ◌-◌, ◌<◌, ◌≡◌, refl, Bool, true, false, ◌↔◌, List, ltb}
+use Rattle.std.specs.Prelude.{ℕ, zero, suc, ◌<◌, ◌≡◌, refl, Bool, true, false, List, ltb}
 use Rattle.std.proofs.Common.{sym, subst, ◌∙◌, arith, ltb-true, ltb-false}
-use Rattle.std.proofs.lemmas.Bool.{false≢true}
 use Rattle.operations.proofs.Laws.Cases.{split, same}
-use Rattle.representatives.specs.Representatives.{entry_number, entry_value, Alike, AlikeBy, FirstBy}
-use Rattle.representatives.specs.Representatives.{RepresentativeBy, Latest}
-
--- What it says: one object and key, and one operation and value where they count.
-pub alike_parts : (valued : Bool) (w : List ℕ) (i j : ℕ) → AlikeBy valued w i j
-    ↔ (Alike w i j × (valued ≡ true → (entry_number w j ≡ entry_number w i) × (entry_value w j ≡ entry_value w i)))
-alike_parts false w i j = (λ a. (a, λ e. absurd (false≢true e)), λ a. a.0)
-alike_parts true w i j = (λ a. (a.0, λ e. (a.1, a.2)), λ a. let same = a.1 refl in (a.0, same.0, same.1))
+use Rattle.representatives.specs.Representatives.{AlikeBy, FirstBy}
+use Rattle.representatives.specs.Representatives.{RepresentativeBy}
 
 alike_own : (valued : Bool) (w : List ℕ) (i : ℕ) → AlikeBy valued w i i
 alike_own false w i = (refl, refl)
@@ -44,13 +37,9 @@ module _ (valued : Bool) (w : List ℕ) where
         none n (omega arith) (λ k m b. below k m (alike_both valued w i n k own b)) own)
         (λ (e : j ≡ n → ⊥). below j (omega arith) a)
 
-    module _ (p : ℕ) (r : Latest (RepresentativeBy valued w i) i p) where
-      pub itself : p ≡ 0 → FirstBy valued w i
-      itself e =
-          none_like i (λ j l f a. r.later j (omega arith) l (record { within = omega arith; alike = a; first = f }))
-
-      pub not_itself : (p ≡ 0 → ⊥) → FirstBy valued w i → ⊥
-      not_itself some f = f (p - 1) (omega (arith, r.within)) (r.such (p - 1) (omega arith)).alike
+    pub first_of : ((j : ℕ) → j < i → RepresentativeBy valued w i j → ⊥) → FirstBy valued w i
+    first_of none =
+        none_like i (λ j l f a. none j l (record { within = omega arith; alike = a; first = f }))
 
     pub representative_itself : FirstBy valued w i → RepresentativeBy valued w i i
     representative_itself f = record { within = omega arith; alike = alike_own valued w i; first = f }

@@ -10,8 +10,6 @@ loop-behind-init c = (here, omega arith, refl)
 pub loop-behind-preserved : goal.loop-behind-preserved
 loop-behind-preserved c =
     let loop = c.loop-behind in
-    let found = c.resume-found in
     let (replayed, onward, within) =
-    goes_on c.args.book.now c.args.bytes.now loop.at loop.invariant.0 found.new.book found.result found.ensures
-    c.in-Again.is in
-    (replayed, within, found.auto.book ∙ loop.invariant.2)
+    goes_on loop.at loop.invariant.0 c.resume.new.book (rw c.in-Ok-Some.field-0-is at c.in-Ok-Some.ensures) in
+    (replayed, within, c.resume.auto.book ∙ loop.invariant.2)

@@ -1,5 +1,5 @@
 -- Calls one after the other, and the records of a beginning of them.
-use Rattle.std.specs.Prelude.{ℕ, ◌≤◌, ◌<◌, ◌≡◌, refl, true, List, [], ◌∷◌, ◌++◌, length, drop}
+use Rattle.std.specs.Prelude.{ℕ, ◌≤◌, ◌<◌, ◌≡◌, refl, true, List, [], ◌∷◌, ◌++◌, length, drop, Some, Ok}
 use Rattle.std.proofs.Common.{sym, ap, ◌∙◌, subst, append_assoc, arith}
 use Rattle.std.proofs.Math.Option.{Option, none, some}
 use Rattle.protocol.specs.Call.{Call, desk}
@@ -7,11 +7,8 @@ use Rattle.history.specs.History.{book_after}
 use Rattle.journal.specs.Records.{Record, bytes_of, file, fits}
 use Rattle.journal.specs.Journal.{record_of, noted, journal}
 use Rattle.journal.proofs.Laws.Files.{Fit, step_read}
-use Rattle.journal.specs.declared.Cause.{Cause}
-use Rattle.resuming.specs.Resuming.{Confirmed, Replayed, here, more, Found, Ended}
+use Rattle.resuming.specs.Resuming.{Confirmed, Replayed, here, more, Found}
 use Rattle.resuming.specs.Laws.Again.{again, unrecorded_kept}
-use Rattle.resuming.specs.declared.Resumed.{Resumed}
-use Rattle.resuming.specs.declared.Resumed.TheVariants.{Again, End, Bad, Differs}
 
 -- One replay behind the other.
 pub behind : {w bytes w₁ bytes₁ w₂ bytes₂ : List ℕ} → Replayed w bytes w₁ bytes₁ → Replayed w₁ bytes₁ w₂ bytes₂
@@ -107,24 +104,7 @@ beginning (call ∷ calls) w whole others e =
 
 -- ---- A turn of the loop
 
-module _ (start bytes : List ℕ) (at : ℕ) {w : List ℕ} (so : Replayed start bytes w (drop at bytes)) (book : List ℕ)
-    (r : Resumed) (found : Found w bytes at book r) where
-  found_as : {s : Resumed} → r ≡ s → Found w bytes at book s
-  found_as e = subst (λ (s : Resumed). Found w bytes at book s) e found
-
-  pub goes_on : {behind : ℕ} → r ≡ Again behind
-      → Replayed start bytes book (drop behind bytes) × (at < behind) × (behind ≤ length bytes)
-  goes_on e = let (confirms, onward, within) = found_as e in (more so confirms, onward, within)
-
-  pub ends : r ≡ End → Ended start bytes at book End
-  ends e =
-      let (told, same) = found_as e in
-      (subst (λ (b : List ℕ). Replayed start bytes b (drop at bytes)) (sym same) so, told)
-
-  pub stops : {cause : Cause} {place : ℕ} → r ≡ Bad cause place → Ended start bytes at book (Bad cause place)
-  stops e =
-      let (told, same) = found_as e in
-      (subst (λ (b : List ℕ). Replayed start bytes b (drop at bytes)) (sym same) so, told)
-
-  pub differs : r ≡ Differs → Ended start bytes at book Differs
-  differs e = (w, so, found_as e)
+pub goes_on : {start bytes : List ℕ} (at : ℕ) {w : List ℕ} → Replayed start bytes w (drop at bytes) → (book : List ℕ)
+    {place : ℕ} → Found w bytes at book (Ok (Some place))
+    → Replayed start bytes book (drop place bytes) × (at < place) × (place ≤ length bytes)
+goes_on at so book (confirms, onward, within) = (more so confirms, onward, within)

@@ -1,16 +1,19 @@
 -- A record that was read, and what the desk gives for its call: as the code has them.
 use Rattle.std.specs.Prelude.{ℕ, suc, ◌+◌, ◌-◌, ◌≤◌, ◌<◌, ◌≡◌, refl, Bool, true, false, ◌↔◌, List, [], ◌∷◌, length}
-use Rattle.std.specs.Prelude.{get_or, take, drop}
+use Rattle.std.specs.Prelude.{get_or, take, drop, Some, None}
+use Rattle.std.proofs.lemmas.Bool.{false≢true}
 use Rattle.std.proofs.Common.{sym, ap, ◌∙◌, subst, true≢false, append-nil, arith, eqb-true, length-append, length-drop}
 use Rattle.std.proofs.Common.{take_at, get_or-drop}
 use Rattle.std.proofs.Math.Option.{Option, none, some}
 use Rattle.operations.proofs.Laws.Cases.{split}
+use Rattle.arrayvec.specs.ArrayVec.{ArrayVec}
+use Rattle.protocol.specs.Replies as protocol
 use Rattle.protocol.specs.Call.{Call}
 use Rattle.lines.specs.Lines.{asked}
-use Rattle.lines.specs.declared.Line.{Line}
 use Rattle.journal.specs.Records as model
 use Rattle.journal.specs.Records.{arguments_of, is_batch, arguments_fit, bytes_of, file, fits}
 use Rattle.journal.specs.Reading.{next, step}
+use Rattle.journal.specs.Journal.{noted, record_of as record_of_call}
 use Rattle.journal.specs.Coded.{front, argument_count, record_of}
 use Rattle.journal.proofs.Theorems.{one_file}
 use Rattle.journal.proofs.Laws.Fronts.{length_front, front_taken}
@@ -20,15 +23,10 @@ use Rattle.journal.proofs.Laws.Groups.{Bytes}
 use Rattle.journal.proofs.Laws.Accepted.{record_written}
 use Rattle.journal.proofs.Laws.Files.{some_bytes}
 use Rattle.journal.specs.declared.Record.{Record}
-use Rattle.journal_reader.specs.Said.{step_said, place_of, reading_said}
-use Rattle.journal_reader.specs.declared.Place.{Place}
-use Rattle.journal_reader.specs.declared.Place.TheVariants.{Behind}
-use Rattle.journal_reader.specs.declared.Reading.{Reading}
-use Rattle.serving.specs.Effects.{Effect, effect_of}
-use Rattle.serving.specs.Told.{said_of, Served}
+use Rattle.serving.specs.Told.{outcome_of, Served}
 use Rattle.serving.specs.declared.Told.{Told}
-use Rattle.dispatch.specs.Served.{records_of, serving}
-use Rattle.dispatch.specs.Replying.{call_asked, Kept}
+use Rattle.dispatch.specs.Served.{serving}
+use Rattle.dispatch.specs.Replying.{Kept}
 use Rattle.resuming.specs.Resuming.{served_again}
 use Rattle.resuming.specs.Laws.Parts.{step_found}
 
@@ -71,43 +69,40 @@ module _ (r : Record) (fit : fits (record_of r) ≡ true) where
 
 -- ---- The record that it gets
 
-module _ (line : Line) (told : Told) {w book : List ℕ} (r : model.Record)
-    (asks : call_asked line ≡ asked r.letter r.arguments)
-    (served : Served (call_asked line) line.operations w book told) where
-  pub left_again : book ≡ (served_again r w).book
-  left_again =
-      ap (λ (e : Effect). e.book) served.done ∙ ap (λ (call : Option Call). (effect_of call w).book) asks
+module _ (r : model.Record) (w : List ℕ) where
+  abbrev Same : Bool → Type 0
+  Same same = (same ≡ true) ↔ ((served_again r w).records ≡ r ∷ [])
 
-  abbrev records : List model.Record
-  records = records_of (call_asked line) (said_of told told.said)
+  module _ {call : Call} {book : List ℕ} {told : Told} (asks : some call ≡ asked r.letter r.arguments)
+      (served : Served call w book told) where
+    pub left_again : book ≡ (served_again r w).book
+    left_again = ap (λ (s : protocol.Served). s.book) served.done ∙ ap (λ (o : Option Call). (serving o w).book) asks
 
-  records_again : records ≡ (served_again r w).records
-  records_again =
-      ap (λ (e : Effect). records_of (call_asked line) e.outcome) served.done
-      ∙ ap (λ (call : Option Call). (serving call w).records) asks
+    abbrev records : List model.Record
+    records = noted (record_of_call call (outcome_of told)) []
 
-  -- Its bytes stand at the front of a buffer.
-  module _ {buffer after : List ℕ} {end : ℕ} (kept : Kept records buffer 0 after end) where
-    so_many : length (file records) ≡ end
-    so_many = omega (arith, kept.put.behind)
+    records_again : records ≡ (served_again r w).records
+    records_again =
+        ap (λ (s : protocol.Served). noted (record_of_call call s.outcome) []) served.done
+        ∙ ap (λ (o : Option Call). (serving o w).records) asks
 
-    written : take end after ≡ file records
-    written =
-        ap (take end) kept.put.buffer
-        ∙ take_at (file records) (drop (0 + length (file records)) buffer) end so_many
+    pub none_written : Kept records None → Same false
+    none_written kept = (
+      λ no. absurd (false≢true no),
+      λ it. absurd (
+          let bytes : [] ≡ file (r ∷ []) = kept.bytes ∙ ap file (records_again ∙ it) in
+          omega (arith, ap length bytes, length-append (bytes_of r) [], some_bytes r)),
+    )
 
-    pub all_written : end ≡ length (take end after)
-    all_written = sym (ap length written ∙ so_many)
-
-    -- They are the same bytes exactly where it is the same record.
-    pub confirmed_exactly : fits r ≡ true → {bytes : List ℕ} → bytes ≡ bytes_of r → {same : Bool}
-        → (same ≡ true → take end after ≡ bytes) × (take end after ≡ bytes → same ≡ true)
-        → (same ≡ true) ↔ ((served_again r w).records ≡ r ∷ [])
-    confirmed_exactly fit {bytes} are said =
+    -- The bytes are the same exactly where it is the same record.
+    pub confirmed_exactly : fits r ≡ true → {bytes : List ℕ} → bytes ≡ bytes_of r → {written : ArrayVec ℕ}
+        → Kept records (Some written) → {same : Bool}
+        → (same ≡ true → written.items ≡ bytes) × (written.items ≡ bytes → same ≡ true) → Same same
+    confirmed_exactly fit {bytes} are kept said =
         let its-file : file (r ∷ []) ≡ bytes = append-nil (bytes_of r) ∙ sym are in (
           λ yes. sym records_again
-              ∙ one_file records (r ∷ []) kept.fit (fit, tt) (sym written ∙ said.0 yes ∙ sym its-file),
-          λ it. said.1 (written ∙ ap file (records_again ∙ it) ∙ its-file),
+              ∙ one_file records (r ∷ []) kept.fit (fit, tt) (sym kept.bytes ∙ said.0 yes ∙ sym its-file),
+          λ it. said.1 (kept.bytes ∙ ap file (records_again ∙ it) ∙ its-file),
         )
 
 -- ---- A record that was read
@@ -125,34 +120,26 @@ all_bytes : (l : List ℕ) → ((i : ℕ) → get_or l i 0 < 256) → Bytes l
 all_bytes [] small = tt
 all_bytes (b ∷ l) small = (small 0, all_bytes l (λ i. small (suc i)))
 
-module _ (bytes : List ℕ) (at : ℕ) (reading : Reading) (said : reading_said bytes reading ≡ step (drop at bytes)) where
-  pub step_as : {place : Place} → reading.place ≡ place
-      → step (drop at bytes) ≡ step_said bytes place (record_of reading.content)
-  step_as is =
-      sym said ∙ ap (λ (p : Place). step_said bytes p (record_of reading.content)) is
-
-  pub stands : {end : ℕ} → place_of reading.place ≤ length bytes → ((i : ℕ) → get_or bytes i 0 < 256)
-      → reading.place ≡ Behind end → Stands bytes at end (record_of reading.content)
-  stands {end} inside small is =
-      let r = record_of reading.content in
-      let within : end ≤ length bytes = subst (λ (p : Place). place_of p ≤ length bytes) is inside in
-      let read : step (drop at bytes) ≡ next r (drop end bytes) = step_as is in
-      let all : Bytes (drop at bytes) =
-      all_bytes (drop at bytes) (λ i. subst (λ (b : ℕ). b < 256) (sym (get_or-drop at bytes i 0)) (small (at + i))) in
-      let so = record_written (drop at bytes) all (step_found (drop at bytes) read) in
-      let long : end - at ≡ length (bytes_of r) =
-      omega (
-        arith,
-        ap length so.are,
-        length-append (bytes_of r) (drop end bytes),
-        length-drop at bytes,
-        length-drop end bytes,
-        some_bytes r,
-      ) in
-      record {
-        read = read;
-        fit = so.fit;
-        are = ap (take (end - at)) so.are ∙ take_at (bytes_of r) (drop end bytes) (end - at) (sym long);
-        onward = omega (arith, some_bytes r, long);
-        within = within;
-      }
+pub stands : (bytes : List ℕ) (at : ℕ) {end : ℕ} (r : model.Record)
+    → next r (drop end bytes) ≡ step (drop at bytes) → end ≤ length bytes → ((i : ℕ) → get_or bytes i 0 < 256)
+    → Stands bytes at end r
+stands bytes at {end} r read within small =
+    let all : Bytes (drop at bytes) =
+    all_bytes (drop at bytes) (λ i. subst (λ (b : ℕ). b < 256) (sym (get_or-drop at bytes i 0)) (small (at + i))) in
+    let so = record_written (drop at bytes) all (step_found (drop at bytes) (sym read)) in
+    let long : end - at ≡ length (bytes_of r) =
+    omega (
+      arith,
+      ap length so.are,
+      length-append (bytes_of r) (drop end bytes),
+      length-drop at bytes,
+      length-drop end bytes,
+      some_bytes r,
+    ) in
+    record {
+      read = sym read;
+      fit = so.fit;
+      are = ap (take (end - at)) so.are ∙ take_at (bytes_of r) (drop end bytes) (end - at) (sym long);
+      onward = omega (arith, some_bytes r, long);
+      within = within;
+    }

@@ -1,5 +1,5 @@
 -- Replaying has no choice: of two replays of the same bytes from the same book, one goes on where the other stops.
-use Rattle.std.specs.Prelude.{ℕ, ◌≡◌, refl, ◌⊎◌, List, [], ◌∷◌, drop}
+use Rattle.std.specs.Prelude.{ℕ, ◌≡◌, refl, ◌⊎◌, List, [], ◌∷◌, drop, Result, Ok, Err}
 use Rattle.std.proofs.Common.{sym, ap, ◌∙◌, subst, inl, inr, ⊎_elim}
 use Rattle.protocol.proofs.Laws.Protocol.{clash}
 use Rattle.journal.specs.Groups as groups
@@ -11,8 +11,9 @@ use Rattle.journal.specs.declared.Cause.TheVariants.{Cut, Letter, Code, Owners, 
 use Rattle.journal.specs.declared.Cause.TheVariants.{Width}
 use Rattle.resuming.specs.Resuming.{served_again, Confirmed, Replayed, here, more, Other, Ended}
 use Rattle.resuming.specs.Laws.Chains.{behind}
-use Rattle.resuming.specs.declared.Resumed.{Resumed}
-use Rattle.resuming.specs.declared.Resumed.TheVariants.{Again, End, Bad, Differs}
+use Rattle.journal.specs.declared.Damage.{Damage}
+use Rattle.resuming.specs.declared.Stop.{Stop}
+use Rattle.resuming.specs.declared.Stop.TheVariants.{Damaged, Differs}
 
 -- A replay of nothing.
 nothing : {w bytes w₁ bytes₁ : List ℕ} → (w ≡ w₁) × (bytes ≡ bytes₁) → Replayed w bytes w₁ bytes₁
@@ -112,29 +113,31 @@ is_cut Width e = clash cc
 
 -- Where the bytes are known to lead to a place at which no record follows, it finds that place and that book.
 module _ {w bytes w₁ rest : List ℕ} (all : Replayed w bytes w₁ rest) (stops : Stops rest) (at : ℕ) (book : List ℕ) where
-  pub found_so : (found : Resumed) → Ended w bytes at book found → (book ≡ w₁) × (drop at bytes ≡ rest)
-  found_so (Again place) so = absurd so
-  found_so End (replayed, told) = only_so replayed (end_stops (drop at bytes) told) all stops
-  found_so (Bad cause place) (replayed, told) = only_so replayed (bad_stops (drop at bytes) told) all stops
-  found_so Differs (before, replayed, other) = absurd (never_other replayed other all stops)
+  pub found_so : (found : Result (Unit {0}) Stop) → Ended w bytes at book found → (book ≡ w₁) × (drop at bytes ≡ rest)
+  found_so (Ok whole) (replayed, told) = only_so replayed (end_stops (drop at bytes) told) all stops
+  found_so (Err (Damaged d)) (replayed, told) = only_so replayed (bad_stops (drop at bytes) told) all stops
+  found_so (Err Differs) (before, replayed, other) = absurd (never_other replayed other all stops)
 
-  pub found_end : (found : Resumed) → Ended w bytes at book found → step rest ≡ end → found ≡ End
-  found_end (Again place) so e = absurd so
-  found_end End so e = refl
-  found_end (Bad cause place) so e =
-      let same = (found_so (Bad cause place) so).1 in
-      let told : stopped (cause_of cause) (drop place bytes) ≡ end = sym so.1 ∙ ap step same ∙ e in
+  pub found_end : (found : Result (Unit {0}) Stop) → Ended w bytes at book found → step rest ≡ end → found ≡ Ok tt
+  found_end (Ok whole) so e = refl
+  found_end (Err (Damaged d)) so e =
+      let same = (found_so (Err (Damaged d)) so).1 in
+      let told : stopped (cause_of d.cause) (drop d.place bytes) ≡ end = sym so.1 ∙ ap step same ∙ e in
       clash cc
-  found_end Differs (before, replayed, other) e = absurd (never_other replayed other all stops)
+  found_end (Err Differs) (before, replayed, other) e = absurd (never_other replayed other all stops)
 
-  pub found_cut : (found : Resumed) {left : List ℕ} → Ended w bytes at book found → step rest ≡ stopped groups.cut left
-      → (place : ℕ) × (found ≡ Bad Cut place)
-  found_cut (Again place) so e = absurd so
-  found_cut End {left} so e =
-      let told : end ≡ stopped groups.cut left = sym so.1 ∙ ap step (found_so End so).1 ∙ e in clash cc
-  found_cut (Bad cause place) {left} so e =
-      let same = (found_so (Bad cause place) so).1 in
-      let told : stopped (cause_of cause) (drop place bytes) ≡ stopped groups.cut left =
+  abbrev err : Damage → Result (Unit {0}) Stop
+  err d = Err (Damaged d)
+
+  pub found_cut : (found : Result (Unit {0}) Stop) {left : List ℕ} → Ended w bytes at book found
+      → step rest ≡ stopped groups.cut left
+      → (place : ℕ) × (found ≡ Err (Damaged (record { cause = Cut; place = place })))
+  found_cut (Ok whole) {left} so e =
+      let told : end ≡ stopped groups.cut left = sym so.1 ∙ ap step (found_so (Ok whole) so).1 ∙ e in clash cc
+  found_cut (Err (Damaged d)) {left} so e =
+      let same = (found_so (Err (Damaged d)) so).1 in
+      let told : stopped (cause_of d.cause) (drop d.place bytes) ≡ stopped groups.cut left =
       sym so.1 ∙ ap step same ∙ e in
-      (place, ap (λ (c : Cause). Bad c place) (is_cut cause cc))
-  found_cut Differs (before, replayed, other) e = absurd (never_other replayed other all stops)
+      let cut : d.cause ≡ Cut = is_cut d.cause cc in
+      (d.place, ap err (ap (λ (c : Cause). record d { cause = c }) cut))
+  found_cut (Err Differs) (before, replayed, other) e = absurd (never_other replayed other all stops)

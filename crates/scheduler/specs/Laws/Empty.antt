@@ -1,6 +1,6 @@
 -- The words of an empty book: the kinds of its objects, and all else 0.
-use Rattle.std.specs.Prelude.{ℕ, ◌+◌, ◌≤◌, ◌<◌, ◌≡◌, List, [], map, length, get_or, set, replicate}
-use Rattle.std.proofs.Common.{sym, ap, ◌∙◌, subst, not-suc-le-zero, arith, length-set, get_or-set_same}
+use Rattle.std.specs.Prelude.{ℕ, ◌+◌, ◌≤◌, ◌<◌, ◌≡◌, refl, false, List, [], ◌∷◌, map, length, get_or, set, replicate}
+use Rattle.std.proofs.Common.{sym, ap, ◌∙◌, subst, not-suc-le-zero, arith, length-set, get_or-set_same, le-ltb}
 use Rattle.std.proofs.Common.{get_or-set_other}
 use Rattle.std.proofs.lemmas.List.{length-map, length-replicate, get_or-replicate}
 use Rattle.std.proofs.Math.ListN.{get_or-map}
@@ -13,7 +13,12 @@ use Rattle.store.specs.Layout.{read_object, row_at, rows_at, entry_at, ObjectPac
 use Rattle.store.proofs.Theorems.{encoded}
 use Rattle.store.proofs.Laws.Lists.{tabulate_zero}
 use Rattle.store.proofs.Laws.Words.{below, zeros_word, all_get_d, tabulate_list}
-use Rattle.protocol.specs.Calls.{empty}
+use Rattle.protocol.specs.Calls.{empty, some_above}
+
+-- None is above n where each is at most n.
+pub known_below : (n : ℕ) (kinds : List ℕ) → All (λ k. k ≤ n) kinds → some_above n kinds ≡ false
+known_below n [] known = refl
+known_below n (k ∷ kinds) known = rw (le-ltb n k known.0) (known_below n kinds known.1)
 
 -- The kinds of the first n objects stand, and all else is 0.
 pub record Written (kinds : List ℕ) (n : ℕ) (w : List ℕ) : Type 0 where

@@ -23,35 +23,47 @@ use Rattle.protocol.specs.declared.Reply.TheVariants.{Answers, Wait, Refused}
 use Rattle.protocol.proofs.Laws.Reasons.{unless_accepted, said_no}
 use Rattle.protocol.proofs.Laws.Batches.{answers_counted}
 use Rattle.protocol.proofs.Laws.Lent.{lent_count}
+use Rattle.std.proofs.Common.{true, false, true≢false, Result, Ok, Err}
+use Rattle.std.specs.Result.{is_err}
+use Rattle.protocol.specs.Refusals.{refusal_number, reason_of}
+use Rattle.protocol.specs.declared.Refusal.{Refusal}
+use Rattle.refusals.specs.Laws.{number_named}
 use Rattle.scheduler.specs.Unanswered.{unanswered}
 
-module _ (n reason : ℕ) (found : reason ≡ n) (w list : List ℕ) (s : Served) where
-  accepted : reason ≡ 0 → s ≡ calls.unless n w list s
-  accepted e = sym (unless_accepted n w list s (sym found ∙ e))
+module _ (n : ℕ) (w list : List ℕ) (s : Served) where
+  accepted : 0 ≡ n → s ≡ calls.unless n w list s
+  accepted none = sym (unless_accepted n w list s (sym none))
+
+  refuses : (reason : Refusal) → refusal_number reason ≡ n
+      → served w (outcome (refused (refusal_number reason)) list []) ≡ calls.unless n w list s
+  refuses reason found = said_no n (refusal_number reason) found w list s (number_named reason)
 
 -- ---- Set up and begin
 
-module _ (w kinds : List ℕ) (reason : ℕ) (found : reason ≡ calls.set_up_reason base w kinds) where
-  pub set_up_refused : (reason ≡ 0 → ⊥) → served w (outcome (refused reason) [] []) ≡ calls.set_up base w kinds
+module _ (w kinds : List ℕ) where
+  pub set_up_refused : (reason : Refusal) → refusal_number reason ≡ calls.set_up_reason base w kinds
+      → served w (outcome (refused (refusal_number reason)) [] []) ≡ calls.set_up base w kinds
   unfolding calls.set_up
-  set_up_refused applies = said_no _ reason found w [] _ applies
+  set_up_refused = refuses _ w [] _
 
-  pub set_up_done : reason ≡ 0 → (after : List ℕ) → after ≡ encode base (calls.empty kinds)
+  pub set_up_done : 0 ≡ calls.set_up_reason base w kinds → (after : List ℕ) → after ≡ encode base (calls.empty kinds)
       → served after (outcome ok [] []) ≡ calls.set_up base w kinds
   unfolding calls.set_up
-  set_up_done e after written =
-      ap (λ (x : List ℕ). served x (outcome ok [] [])) written ∙ accepted _ reason found w [] _ e
+  set_up_done none after written =
+      ap (λ (x : List ℕ). served x (outcome ok [] [])) written ∙ accepted _ w [] _ none
 
-module _ (w : List ℕ) (t reason : ℕ) (found : reason ≡ calls.begin_reason base whether_sound w t) where
-  pub begin_refused : (reason ≡ 0 → ⊥) → served w (outcome (refused reason) [] []) ≡ calls.begin base whether_sound w t
+module _ (w : List ℕ) (t : ℕ) where
+  pub begin_refused : (reason : Refusal) → refusal_number reason ≡ calls.begin_reason base whether_sound w t
+      → served w (outcome (refused (refusal_number reason)) [] []) ≡ calls.begin base whether_sound w t
   unfolding calls.begin
-  begin_refused applies = said_no _ reason found w [] _ applies
+  begin_refused = refuses _ w [] _
 
-  pub begin_done : reason ≡ 0 → (after : List ℕ) → after ≡ encode base (with_status t active (decode base w))
+  pub begin_done : 0 ≡ calls.begin_reason base whether_sound w t → (after : List ℕ)
+      → after ≡ encode base (with_status t active (decode base w))
       → served after (outcome ok [] []) ≡ calls.begin base whether_sound w t
   unfolding calls.begin
-  begin_done e after written =
-      ap (λ (x : List ℕ). served x (outcome ok [] [])) written ∙ accepted _ reason found w [] _ e
+  begin_done none after written =
+      ap (λ (x : List ℕ). served x (outcome ok [] [])) written ∙ accepted _ w [] _ none
 
 -- ---- Operate
 
@@ -61,29 +73,29 @@ module _ (w : List ℕ) (t : ℕ) (qs : List LentOperation) where
   waits zero other = absurd (other refl)
   waits (suc n) other = refl
 
-module _ (w : List ℕ) (t : ℕ) (operations : List ℕ) (reason : ℕ)
-    (found : reason ≡ calls.batch_reason base whether_sound w t operations) where
+module _ (w : List ℕ) (t : ℕ) (operations : List ℕ) where
   abbrev qs : List LentOperation
   qs = calls.operations_in operations
 
   abbrev awaited : ℕ
   awaited = calls.awaited base t (decode base w) qs
 
-  batch_refused : (reason ≡ 0 → ⊥)
-      → served w (outcome (refused reason) [] []) ≡ calls.batch base whether_sound w t operations
+  batch_refused : (reason : Refusal) → refusal_number reason ≡ calls.batch_reason base whether_sound w t operations
+      → served w (outcome (refused (refusal_number reason)) [] []) ≡ calls.batch base whether_sound w t operations
   unfolding calls.batch
-  batch_refused applies = said_no _ reason found w [] _ applies
+  batch_refused = refuses _ w [] _
 
-  batch_waits : reason ≡ 0 → (set count : ℕ) → set ≡ awaited → (set ≡ 0 → ⊥) → count ≡ size set
+  batch_waits : 0 ≡ calls.batch_reason base whether_sound w t operations → (set count : ℕ) → set ≡ awaited
+      → (set ≡ 0 → ⊥) → count ≡ size set
       → served w (outcome (wait set count) [] []) ≡ calls.batch base whether_sound w t operations
   unfolding calls.batch
   batch_waits e set count scanned other sized =
       ap (λ (n : ℕ). served w (outcome (wait set n) [] [])) sized
       ∙ waits w t qs set other
       ∙ ap (calls.respond base w t qs) scanned
-      ∙ accepted _ reason found w [] _ e
+      ∙ accepted _ w [] _ e
 
-  batch_answers : reason ≡ 0 → (set : ℕ) → set ≡ awaited → set ≡ 0
+  batch_answers : 0 ≡ calls.batch_reason base whether_sound w t operations → (set : ℕ) → set ≡ awaited → set ≡ 0
       → (given : List Answer) → given ≡ calls.answers_to base t qs (decode base w)
       → (after : List ℕ) → after ≡ encode base (calls.run_all base t qs (decode base w))
       → served after (outcome (answered given) [] []) ≡ calls.batch base whether_sound w t operations
@@ -91,17 +103,18 @@ module _ (w : List ℕ) (t : ℕ) (operations : List ℕ) (reason : ℕ)
   batch_answers e set scanned free given replayed after written =
       ap₂ (λ (x : List ℕ) (l : List Answer). served x (outcome (answered l) [] [])) written replayed
       ∙ ap (calls.respond base w t qs) (sym free ∙ scanned)
-      ∙ accepted _ reason found w [] _ e
+      ∙ accepted _ w [] _ e
 
   -- What the code hands back, with the array.
   abbrev Leaves : List ℕ → Batched → Type 0
   Leaves after b =
       (served after (outcome (batched_of b) [] []) ≡ calls.batch base whether_sound w t operations) × Filled b
 
-  pub leaves_refused : (b : Batched) → b ≡ unanswered (Refused reason) → (reason ≡ 0 → ⊥) → Leaves w b
-  leaves_refused b made applies = subst (Leaves w) (sym made) (batch_refused applies, (refl, refl))
+  pub leaves_refused : (reason : Refusal) → refusal_number reason ≡ calls.batch_reason base whether_sound w t operations
+      → (b : Batched) → b ≡ unanswered (Refused reason) → Leaves w b
+  leaves_refused reason found b made = subst (Leaves w) (sym made) (batch_refused reason found, (refl, refl))
 
-  module _ (e : reason ≡ 0) (set : ℕ) (scanned : set ≡ awaited) where
+  module _ (e : 0 ≡ calls.batch_reason base whether_sound w t operations) (set : ℕ) (scanned : set ≡ awaited) where
     pub leaves_waiting : (b : Batched) (count : ℕ) → b ≡ unanswered (Wait set count) → (set ≡ 0 → ⊥) → count ≡ size set
         → Leaves w b
     leaves_waiting b count made other sized =
@@ -123,8 +136,7 @@ module _ (w : List ℕ) (t : ℕ) (operations : List ℕ) (reason : ℕ)
         )
 
 -- Operate is the batch of one.
-module _ (w : List ℕ) (t o number k v reason : ℕ)
-    (found : reason ≡ calls.operate_reason base whether_sound w t o number k v) where
+module _ (w : List ℕ) (t o number k v : ℕ) where
   abbrev lent : List ℕ
   lent = o ∷ number ∷ k ∷ v ∷ []
 
@@ -134,37 +146,58 @@ module _ (w : List ℕ) (t o number k v reason : ℕ)
   abbrev owners : ℕ
   owners = calls.owners t requested (on_object o (decode base w).log)
 
-  pub operate_refused : (reason ≡ 0 → ⊥)
-      → served w (outcome (refused reason) [] []) ≡ calls.operate base whether_sound w t o number k v
-  unfolding calls.operate
-  operate_refused = batch_refused w t lent reason found
+  abbrev Accepted : Type 0
+  Accepted = 0 ≡ calls.operate_reason base whether_sound w t o number k v
 
-  pub operate_waits : reason ≡ 0 → (set count : ℕ) → set ≡ owners → (set ≡ 0 → ⊥) → count ≡ size set
+  pub operate_refused : (reason : Refusal)
+      → refusal_number reason ≡ calls.operate_reason base whether_sound w t o number k v
+      → served w (outcome (refused (refusal_number reason)) [] [])
+      ≡ calls.operate base whether_sound w t o number k v
+  unfolding calls.operate
+  operate_refused = batch_refused w t lent
+
+  pub operate_waits : Accepted → (set count : ℕ) → set ≡ owners → (set ≡ 0 → ⊥) → count ≡ size set
       → served w (outcome (wait set count) [] []) ≡ calls.operate base whether_sound w t o number k v
   unfolding calls.operate
-  operate_waits = batch_waits w t lent reason found
+  operate_waits = batch_waits w t lent
 
-  pub operate_answers : reason ≡ 0 → (set : ℕ) → set ≡ owners → set ≡ 0 → (answer : Answer)
+  pub operate_answers : Accepted → (set : ℕ) → set ≡ owners → set ≡ 0 → (answer : Answer)
       → answer ≡ calls.answer_to requested (decode base w) o
       → (after : List ℕ) → after ≡ encode base (calls.entered t o requested (decode base w))
       → served after (outcome (answered (answer ∷ [])) [] []) ≡ calls.operate base whether_sound w t o number k v
   unfolding calls.operate
   operate_answers e set scanned free answer replayed after written =
-      batch_answers w t lent reason found e set scanned free (answer ∷ [])
+      batch_answers w t lent e set scanned free (answer ∷ [])
       (ap (λ (a : Answer). a ∷ []) replayed) after written
 
 -- ---- Contents
 
-module _ (w : List ℕ) (o reason : ℕ) (found : reason ≡ calls.contents_reason base whether_sound w o) where
-  pub contents_refused : (reason ≡ 0 → ⊥)
-      → served w (outcome (refused reason) [] []) ≡ calls.contents base whether_sound w o
+module _ (w : List ℕ) (o : ℕ) where
+  pub contents_refused : (reason : Refusal) → refusal_number reason ≡ calls.contents_reason base whether_sound w o
+      → served w (outcome (refused (refusal_number reason)) [] []) ≡ calls.contents base whether_sound w o
   unfolding calls.contents
-  contents_refused applies = said_no _ reason found w [] _ applies
+  contents_refused = refuses _ w [] _
 
-  pub contents_served : reason ≡ 0 → let rows = (object_of (decode base w) o).rows in
+  pub contents_served : 0 ≡ calls.contents_reason base whether_sound w o
+      → let rows = (object_of (decode base w) o).rows in
       served w (outcome (counted (length rows)) [] (joined row_words rows)) ≡ calls.contents base whether_sound w o
   unfolding calls.contents
-  contents_served e = accepted _ reason found w [] _ e
+  contents_served = accepted _ w [] _
+
+-- Where a reason was found nothing is handed back, and where none was the call may be served.
+module _ {T : Type 0} (w : List ℕ) (o : ℕ) where
+  abbrev Found : Result T Refusal → Type 0
+  Found r = reason_of r ≡ calls.contents_reason base whether_sound w o
+
+  pub contents_nothing : (r : Result T Refusal) → Found r → is_err r ≡ true
+      → [] ≡ (calls.contents base whether_sound w o).outcome.rows
+  contents_nothing (Ok x) found e = absurd (true≢false (sym e))
+  contents_nothing (Err reason) found e = ap (λ (s : Served). s.outcome.rows) (contents_refused w o reason found)
+
+  pub contents_free : (r : Result T Refusal) → Found r → is_err r ≡ false
+      → 0 ≡ calls.contents_reason base whether_sound w o
+  contents_free (Ok x) found e = found
+  contents_free (Err reason) found e = absurd (true≢false e)
 
 -- What contents hands back is that part of the book.
 pub contents_handed : (w : List ℕ) (o : ℕ) (part : List ℕ) → part ≡ (calls.contents base whether_sound w o).outcome.rows

@@ -8,10 +8,9 @@ use Rattle.text.specs.Fields.{Put}
 use Rattle.text.proofs.Laws.Putting.{nothing, then, length_put}
 use Rattle.journal.specs.Records.{Record, file, fits}
 use Rattle.dispatch.specs.Served.{LineServed}
-use Rattle.dispatch.specs.Replying.{Answered}
-use Rattle.dispatch.specs.declared.Ends.{Ends}
-use Rattle.script.specs.Script.{texts, records, as_lines}
-use Rattle.script.specs.Feeding.{Issued}
+use Rattle.script.specs.declared.Ends.{Ends}
+use Rattle.script.specs.Script.{records}
+use Rattle.script.specs.Feeding.{LinePut, Issued}
 use Rattle.script.proofs.Laws.Lines.{texts_append, records_append, file_append}
 
 pub issued_nothing : (out : List ℕ) (at : ℕ) (journal : List ℕ) (behind : ℕ)
@@ -21,15 +20,15 @@ issued_nothing out at journal behind =
 
 -- A line, served.
 pub issued_line : {a : LineServed} {book out printed journal recorded : List ℕ} {at behind : ℕ} {ends : Ends}
-    → Answered a book out at printed journal behind recorded ends
+    → LinePut a book out at printed journal behind recorded ends
     → Issued (a ∷ []) out at printed ends.written journal behind recorded ends.recorded
 issued_line {a} {journal = journal} {recorded = recorded} {behind = behind} {ends = ends} said =
     let all : a.records ++ [] ≡ a.records = append-nil a.records in
     record {
       put = said.put;
       kept =
-          subst⁻¹ (λ (rs : List Record). Put journal behind (file rs) recorded ends.recorded) all said.kept.put;
-      fit = subst⁻¹ (λ (rs : List Record). All (λ r. fits r ≡ true) rs) all said.kept.fit;
+          subst⁻¹ (λ (rs : List Record). Put journal behind (file rs) recorded ends.recorded) all said.kept;
+      fit = subst⁻¹ (λ (rs : List Record). All (λ r. fits r ≡ true) rs) all said.fit;
     }
 
 -- A text that was put and ends inside its buffer had room there, and leaves the buffer's length.

@@ -1,9 +1,9 @@
 -- A block taken line by line.
-use Rattle.std.specs.Prelude.{ℕ, suc, ◌+◌, ◌-◌, ◌≤◌, ◌<◌, ◌≡◌, refl, Bool, true, false, ◌↔◌, ltb, length, take, drop}
+use Rattle.std.specs.Prelude.{ℕ, suc, ◌+◌, ◌-◌, ◌≤◌, ◌<◌, ◌≡◌, Bool, true, false, ◌↔◌, ltb, length, take, drop, min}
 use Rattle.std.specs.Prelude.{get_or}
 use Prim.Native.Char.{code}
 use Rattle.std.proofs.Common.{sym, ap₂, ◌∙◌, subst, inl, inr, ⊎_elim, eq-zero-or-pos, arith, ltb-true, ltb-false}
-use Rattle.std.proofs.Common.{length-append, length-drop, drop-drop, take_all, take-add, take-suc, length-take-le}
+use Rattle.std.proofs.Common.{length-drop, drop-drop, take_all, take-add, take-suc, length-take-le}
 use Rattle.std.proofs.Common.{drop-cons}
 use Rattle.std.proofs.Math.Path.{ap, subst⁻¹}
 use Rattle.std.proofs.lemmas.Bool.{false≢true}
@@ -17,44 +17,38 @@ use Rattle.text.proofs.Laws.Splitting.{Separated, separated}
 use Rattle.text.proofs.Laws.Lines.{Without, front_without}
 use Rattle.journal.specs.Records.{file}
 use Rattle.dispatch.specs.Served.{LineServed, line_served}
-use Rattle.dispatch.specs.Replying.{Answered}
-use Rattle.dispatch.specs.declared.Ends.{Ends}
+use Rattle.script.specs.declared.Ends.{Ends}
 use Rattle.script.specs.Script.{texts, records, as_lines}
 use Rattle.script.specs.Sessions.{Session, session, Turn, turn, behind, line_ended, taken}
-use Rattle.script.specs.Feeding.{Issued, chunk, Kept, Room, Took, begun, Stopped}
+use Rattle.script.specs.Feeding.{LinePut, Issued, chunk, Kept, Room, Took, begun, Stopped}
 use Rattle.script.proofs.Laws.Issuing.{issued_nothing, issued_line, issued_then, put_length}
 use Rattle.script.proofs.Laws.Reading.{taken_append, taken_part}
 use Rattle.script.specs.declared.Progress.{Progress}
 
 -- ---- Keeping a line
 
-module _ (line : List ℕ) (kept : ℕ) (part : List ℕ) (size : length line ≡ 717)
-    (few : kept ≤ 717) {after : List ℕ} {end : ℕ} where
-  pub kept_all : length part < 717 - kept → Put line kept part after end → Kept (take kept line) part after end
-  kept_all less put =
-      let fits : kept + length part ≤ length line = omega arith in
-      let head : length (take kept line ++ part) ≤ 717 =
-      omega (arith, length-append (take kept line) part, length-take-le kept line (omega arith)) in (
-        (ap length put.buffer ∙ length_put line kept part fits ∙ size, omega (arith, put.behind)),
-        ap₂ take put.behind put.buffer ∙ front line kept part fits
-            ∙ sym (take_all 717 (take kept line ++ part) head),
-      )
-
-  pub kept_some : 717 - kept ≤ length part → Put line kept (take (717 - kept) part) after end
-      → Kept (take kept line) part after end
-  kept_some more put =
-      let some : length (take (717 - kept) part) ≡ 717 - kept = length-take-le (717 - kept) part more in
-      let fits : kept + length (take (717 - kept) part) ≤ length line = omega arith in
-      let head : length (take kept line) ≡ kept = length-take-le kept line (omega arith) in
-      let whole : length (take kept line) + (717 - kept) ≡ 717 = omega arith in (
-        (
-          ap length put.buffer ∙ length_put line kept (take (717 - kept) part) fits ∙ size,
-          omega (arith, put.behind),
-        ),
-        ap₂ take put.behind put.buffer ∙ front line kept (take (717 - kept) part) fits
-            ∙ sym (take-append-add (take kept line) part (717 - kept))
-            ∙ ap (λ (n : ℕ). take n (take kept line ++ part)) whole,
-      )
+-- As much of a part is kept as there is room for.
+pub kept_part : (line : List ℕ) (kept : ℕ) (part : List ℕ) → length line ≡ 717 → kept ≤ 717 → {after : List ℕ}
+    {count end : ℕ} → count ≡ min (length part) (717 - kept) → Put line kept (take count part) after end
+    → Kept (take kept line) part after end
+kept_part line kept part size few {after} {count} counted put =
+    let room : ℕ = 717 - kept in
+    let some : length (take count part) ≡ count = length-take-le count part (omega arith) in
+    let fits : kept + length (take count part) ≤ length line = omega arith in
+    let head : length (take kept line) ≡ kept = length-take-le kept line (omega arith) in
+    let whole : length (take kept line) + room ≡ 717 = omega arith in
+    let same : take count part ≡ take room part =
+    cases (ltb room (length part))
+    (λ e. let less = ltb-true room (length part) e in
+    let all : count ≡ room = omega arith in ap (λ (n : ℕ). take n part) all)
+    (λ e. let more = ltb-false room (length part) e in
+    take_all count part (omega arith) ∙ sym (take_all room part more)) in (
+      (ap length put.buffer ∙ length_put line kept (take count part) fits ∙ size, omega (arith, put.behind)),
+      ap₂ take put.behind put.buffer ∙ front line kept (take count part) fits
+          ∙ ap (λ (l : List ℕ). take kept line ++ l) same
+          ∙ sym (take-append-add (take kept line) part room)
+          ∙ ap (λ (n : ℕ). take n (take kept line ++ part)) whole,
+    )
 
 -- ---- A line of a block
 
@@ -133,7 +127,7 @@ module _ (w line block out journal : List ℕ) (from : Progress) (few : from.kep
         )
 
     pub took_line : end < length block → {book printed recorded : List ℕ} {ends : Ends}
-        → Answered (line_served w (take kept line₁)) book out from.written printed journal from.recorded recorded
+        → LinePut (line_served w (take kept line₁)) book out from.written printed journal from.recorded recorded
         ends
         → Took s block from book line₁ out printed journal recorded
         (record { at = end + 1; kept = 0; written = ends.written; recorded = ends.recorded })
@@ -152,24 +146,12 @@ module _ (w line block out journal : List ℕ) (from : Progress) (few : from.kep
                 Issued t.ended out from.written printed ends.written journal from.recorded recorded
                 ends.recorded)
                 to-line (issued_line said);
-            fits = (omega (arith, said.few, room.0), omega (arith, said.kept.few, room.1));
+            fits = (omega (arith, said.few, room.0), omega (arith, said.short, room.1));
           },
           omega (arith, found),
         )
 
 -- ---- What `feed` leaves
-
-pub took_nothing : (book line block out journal : List ℕ) (kept : ℕ) → kept ≤ 717
-    → Took (session book (take kept line)) block (begun kept) book line out out journal journal (begun kept)
-took_nothing book line block out journal kept few =
-    record {
-      forward = omega arith;
-      within = omega arith;
-      few = few;
-      left = refl;
-      issued = issued_nothing out 0 journal 0;
-      fits = (omega arith, omega arith);
-    }
 
 module _ {s : Session} {block : List ℕ} {from : Progress} {book line out printed journal recorded : List ℕ}
     {to : Progress} (first : Took s block from book line out printed journal recorded to)

@@ -14,4 +14,4 @@ returns c =
     let a = c.args in
     took_line a.book.now a.line.now a.block.now a.out.now a.journal.now a.from c.requires.0.1 c.requires.0.0
     c.requires.1 c.requires.2 _ c.find-end.ensures.0 _ _ c.keep-kept.ensures
-    (omega (arith, c.find-end.ensures.1, c.if-end-block.false)) c.reply_line-ends.ensures
+    (omega (arith, c.find-end.ensures.1, c.if-end-block.false)) c.serve_line-ends.ensures

@@ -1,22 +1,23 @@
 -- An entry of a set or a table: what its cell holds before it, and the state after it.
-use Rattle.std.specs.Prelude.{ℕ, ◌+◌, ◌*◌, ◌≤◌, ◌<◌, ◌≡◌, refl, Bool, true, false, not, List, eqb, length, get_or, set}
-use Rattle.std.proofs.Common.{sym, ap, ap₂, ◌∙◌, subst, true≢false, arith, eqb-true, length-set, get_or-set_same}
+use Rattle.std.specs.Prelude.{ℕ, ◌+◌, ◌≤◌, ◌<◌, ◌≡◌, refl, true, false, List, Option, None, length, get_or, set}
+use Rattle.std.proofs.Common.{sym, ap, ap₂, ◌∙◌, subst, true≢false, arith, length-set, get_or-set_same}
 use Rattle.std.proofs.Common.{get_or-set_other}
 use Rattle.std.proofs.Math.Option.{some}
-use Rattle.std.proofs.lemmas.Bool.{eqb-false, not-true, not-false}
-use Rattle.operations.specs.Operations.{Kind, Stack, Set, Table, Row, Answer, answering, valued, found, next, answer}
+use Rattle.operations.specs.Operations.{Kind, Stack, Set, Table, Row, Answer, valued, found, next, answer}
 use Rattle.operations.specs.Operations.{kind_of, number_of, key_of, value_of, Ascending}
 use Rattle.operations.specs.declared.Operation as code
-use Rattle.operations.specs.declared.Answer as coded
-use Rattle.operations.specs.Stored.{answer_of}
-use Rattle.operations.proofs.Laws.Cases.{split, same, denied}
-use Rattle.store.specs.Layout.{operation_at, rows_at}
+use Rattle.operations.specs.Stored.{found_of}
+use Rattle.operations.proofs.Laws.Cases.{same}
+use Rattle.store.specs.Layout.{operation_at, entry_at, rows_at}
 use Rattle.representatives.specs.Representatives.{entry_object, entry_key, First}
 use Rattle.representatives.specs.Laws.Firsts.{firsts_apart}
 use Rattle.representatives.specs.Laws.Reading.{of_kind_lem}
-use Rattle.states.specs.States.{state_after, count_after, keyed_answer, kind_at, Keyed, Untouched, Ordered, cell_in}
-use Rattle.states.specs.States.{Serving, KeyedEntry, KeyedServed, HeldBy}
-use Rattle.states.specs.Laws.Cells.{code_few, code_rows, count_right, answer_right, changed_right, found_other}
+use Rattle.answers.specs.Laws.Entries.{OperationRead}
+use Rattle.states.specs.declared.State.{State}
+use Rattle.states.specs.States.{state_after, count_after, keyed_answer, kind_at, Keyed, Untouched, Ordered}
+use Rattle.states.specs.States.{cell_in}
+use Rattle.states.specs.States.{Serving, KeyedEntry, AfterEntry, HeldBy}
+use Rattle.states.specs.Laws.Cells.{code_rows, count_right, answer_right, changed_right, found_other}
 use Rattle.states.specs.Laws.Stacks.{stacked_past}
 use Rattle.states.specs.Laws.Serving as serving
 
@@ -25,7 +26,7 @@ ascending_of Stack rs n a = absurd (n refl)
 ascending_of Set rs n a = a
 ascending_of Table rs n a = a
 
-module _ {w : List ℕ} {i o p : ℕ} {cells counts : List ℕ} (k : KeyedEntry w i o p cells counts) where
+module _ {w : List ℕ} {i o p : ℕ} {state : State} (k : KeyedEntry w i o p state) where
   pub placed : (o < 16) × (p < 256)
   placed = (
     serving.placed k.entry,
@@ -45,27 +46,22 @@ module _ {w : List ℕ} {i o p : ℕ} {cells counts : List ℕ} (k : KeyedEntry 
 
   -- ---- The state after it
 
-  module _ {tops below : List ℕ} (s : Serving w i cells counts tops below) (right : serving.Right k.entry s)
-      (n : ℕ) (counted : n ≡ length (next (operation_at w i) (s.rows o)))
-      (c v : ℕ) (changes : answering c v ≡ valued (found (entry_key w i) (next (operation_at w i) (s.rows o)))) where
-    abbrev cells_after : List ℕ
-    cells_after = set (set cells (2 * p) c) (2 * p + 1) v
+  abbrev s : Serving w i state
+  s = k.served
 
-    cell_own : cell_in cells_after p ≡ answering c v
+  module _ (right : serving.Right k.entry s) (n : ℕ) (counted : n ≡ length (next (operation_at w i) (s.rows o)))
+      (v : Option ℕ)
+      (changes : valued (found_of v) ≡ valued (found (entry_key w i) (next (operation_at w i) (s.rows o)))) where
+    abbrev cells_after : List (Option ℕ)
+    cells_after = set state.cells p v
+
+    cell_own : cell_in cells_after p ≡ valued (found_of v)
     cell_own =
-        let size = length-set cells (2 * p) c in
-        ap₂ answering
-        (get_or-set_other (set cells (2 * p) c) (2 * p + 1) (2 * p) v 0 (omega arith)
-        ∙ get_or-set_same cells (2 * p) c 0 (omega (arith, placed, s.sized.of_cells)))
-        (get_or-set_same (set cells (2 * p) c) (2 * p + 1) v 0 (omega (arith, placed, s.sized.of_cells, size)))
+        ap (λ (x : Option ℕ). valued (found_of x))
+        (get_or-set_same state.cells p v None (omega (arith, placed, s.sized.of_cells)))
 
-    cell_other : (j : ℕ) → (j ≡ p → ⊥) → cell_in cells_after j ≡ cell_in cells j
-    cell_other j d =
-        ap₂ answering
-        (get_or-set_other (set cells (2 * p) c) (2 * p + 1) (2 * j) v 0 (omega arith)
-        ∙ get_or-set_other cells (2 * p) (2 * j) c 0 (omega arith))
-        (get_or-set_other (set cells (2 * p) c) (2 * p + 1) (2 * j + 1) v 0 (omega arith)
-        ∙ get_or-set_other cells (2 * p) (2 * j + 1) c 0 (omega arith))
+    cell_other : (j : ℕ) → (j ≡ p → ⊥) → cell_in cells_after j ≡ cell_in state.cells j
+    cell_other j d = ap (λ (x : Option ℕ). valued (found_of x)) (get_or-set_other state.cells p j v None d)
 
     abbrev rows_after : ℕ → List Row
     rows_after = serving.rows_after k.entry s
@@ -116,13 +112,17 @@ module _ {w : List ℕ} {i o p : ℕ} {cells counts : List ℕ} (k : KeyedEntry 
         found_kept q x (λ d y. u i (omega arith) (sym k.entry.on ∙ sym d) (sym y))
         ∙ s.fresh q x (λ j m. u j (omega arith)) z
 
-    turn : Serving w (i + 1) cells_after (set counts o n) tops below
+    turn : Serving w (i + 1) (record {
+      cells = cells_after;
+      counts = set state.counts o n;
+      tops = state.tops;
+      below = state.below;
+    })
     turn =
         record {
           sized = record {
-            of_cells = length-set (set cells (2 * p) c) (2 * p + 1) v ∙ length-set cells (2 * p) c
-                ∙ s.sized.of_cells;
-            of_counts = length-set counts o n ∙ s.sized.of_counts;
+            of_cells = length-set state.cells p v ∙ s.sized.of_cells;
+            of_counts = length-set state.counts o n ∙ s.sized.of_counts;
             of_tops = s.sized.of_tops;
             of_below = s.sized.of_below;
           };
@@ -140,87 +140,84 @@ module _ {w : List ℕ} {i o p : ℕ} {cells counts : List ℕ} (k : KeyedEntry 
 
   -- ---- What lookup of its key would answer, and what the code makes of that
 
-  module _ (operation : code.Operation) (read : serving.OperationRead w i operation) (held : coded.Answer)
-      (h : HeldBy w o operation.key p (eqb p i) cells (answer_of held)) where
-    held_right : {tops below : List ℕ} (s : Serving w i cells counts tops below)
-        → answer_of held ≡ valued (found (entry_key w i) (s.rows o))
-    held_right s =
-        split (eqb p i)
-        (λ (e : eqb p i ≡ true).
-        let first : First w i = subst (First w) (eqb-true p i e) k.represents.first in
+  module _ (operation : code.Operation) (read : OperationRead w i operation) (held : Option ℕ)
+      (h : HeldBy w i o operation.key p state.cells held) where
+    held_right : valued (found_of held) ≡ valued (found (entry_key w i) (s.rows o))
+    held_right =
+        same p i
+        (λ (e : p ≡ i).
+        let first : First w i = subst (First w) e k.represents.first in
         h.0 e ∙ ap (λ (x : ℕ). valued (found x (rows_at w o))) read.1
         ∙ ap valued (sym (s.fresh o (entry_key w i) (λ j m a b. first j m (a ∙ k.entry.on, b)) not_stack)))
-        (λ (e : eqb p i ≡ false).
-        let n : p ≡ i → ⊥ = eqb-false p i e in
-        let m : p < i = omega (arith, n, k.represents.within) in
+        (λ (e : p ≡ i → ⊥).
+        let m : p < i = omega (arith, e, k.represents.within) in
         let kind = of_kind_lem w k.entry.formed.fits p (omega (arith, m, k.entry.inside)) in
         h.1 e
         ∙ s.cell p m k.represents.first (λ x. not_stack (ap (kind_at w) (sym on) ∙ kind ∙ ap some x))
         ∙ ap₂ (λ (x q : ℕ). valued (found x (s.rows q))) k.represents.alike.1 on)
 
-    pub bounds : (held.code ≤ 1) × (get_or counts o 0 ≤ 320) × (held.code ≤ get_or counts o 0)
+    pub bounds : (get_or state.counts o 0 ≤ 320) × ((valued (found_of held)).code ≤ get_or state.counts o 0)
     bounds =
-        let s = k.state in
         let l : o < 16 = placed.0 in
-        let e : held.code ≡ (valued (found (entry_key w i) (s.rows o))).code =
-        ap (λ (r : Answer). r.code) (held_right s) in (
-          omega (arith, e, code_few (found (entry_key w i) (s.rows o))),
+        let e : (valued (found_of held)).code ≡ (valued (found (entry_key w i) (s.rows o))).code =
+        ap (λ (r : Answer). r.code) held_right in (
           omega (arith, s.counted o l, s.few o l, k.entry.inside, k.entry.formed.packed.log.entries),
           omega (arith, e, s.counted o l, code_rows (entry_key w i) (s.rows o)),
         )
 
-    module _ {tops below : List ℕ} (s : Serving w i cells counts tops below) where
-      number_stored : operation.number ≡ number_of (operation_at w i)
-      number_stored = read.0 ∙ sym (k.entry.formed.packed.log.as_stored i k.entry.inside).0
+    number_stored : operation.number ≡ number_of (operation_at w i)
+    number_stored = read.0 ∙ sym (k.entry.formed.packed.log.as_stored i k.entry.inside).0
 
-      value_stored : operation.value ≡ value_of (operation_at w i)
-      value_stored = read.2 ∙ sym (k.entry.formed.packed.log.as_stored i k.entry.inside).2
+    value_stored : operation.value ≡ value_of (operation_at w i)
+    value_stored = read.2 ∙ sym (k.entry.formed.packed.log.as_stored i k.entry.inside).2
 
-      held_stored : answer_of held ≡ valued (found (key_of (operation_at w i)) (s.rows o))
-      held_stored =
-          held_right s ∙ ap (λ (x : ℕ). valued (found x (s.rows o))) (sym (serving.key_stored k.entry))
+    held_stored : valued (found_of held) ≡ valued (found (key_of (operation_at w i)) (s.rows o))
+    held_stored =
+        held_right ∙ ap (λ (x : ℕ). valued (found x (s.rows o))) (sym (serving.key_stored k.entry))
 
-      given_right_lem : keyed_answer operation.number (answer_of held) (get_or counts o 0)
-          ≡ answer (operation_at w i) (s.rows o)
-      given_right_lem =
-          ap (λ (n : ℕ). keyed_answer n (answer_of held) (get_or counts o 0)) number_stored
-          ∙ ap₂ (keyed_answer (number_of (operation_at w i))) held_stored (s.counted o placed.0)
-          ∙ answer_right (s.rows o) (operation_at w i) k.keyed
+    given_right_lem : keyed_answer operation.number (valued (found_of held)) (get_or state.counts o 0)
+        ≡ answer (operation_at w i) (s.rows o)
+    given_right_lem =
+        ap (λ (n : ℕ). keyed_answer n (valued (found_of held)) (get_or state.counts o 0)) number_stored
+        ∙ ap₂ (keyed_answer (number_of (operation_at w i))) held_stored (s.counted o placed.0)
+        ∙ answer_right (s.rows o) (operation_at w i) k.keyed
 
-      after_right : count_after operation.number held.code (get_or counts o 0)
-          ≡ length (next (operation_at w i) (s.rows o))
-      after_right =
-          ap (λ (n : ℕ). count_after n held.code (get_or counts o 0)) number_stored
-          ∙ ap₂ (count_after (number_of (operation_at w i))) (ap (λ (r : Answer). r.code) held_stored)
-          (s.counted o placed.0)
-          ∙ count_right (s.rows o) (operation_at w i) k.keyed
+    after_right : count_after operation.number (valued (found_of held)).code (get_or state.counts o 0)
+        ≡ length (next (operation_at w i) (s.rows o))
+    after_right =
+        ap (λ (n : ℕ). count_after n (valued (found_of held)).code (get_or state.counts o 0)) number_stored
+        ∙ ap₂ (count_after (number_of (operation_at w i))) (ap (λ (r : Answer). r.code) held_stored)
+        (s.counted o placed.0)
+        ∙ count_right (s.rows o) (operation_at w i) k.keyed
 
-      cell_right : state_after operation.number operation.value (answer_of held)
-          ≡ valued (found (entry_key w i) (next (operation_at w i) (s.rows o)))
-      cell_right =
-          ap₂ (λ (n v : ℕ). state_after n v (answer_of held)) number_stored value_stored
-          ∙ ap (state_after (number_of (operation_at w i)) (value_of (operation_at w i))) held_stored
-          ∙ changed_right (s.rows o) (operation_at w i) k.keyed (serving.ordered_here k.entry s)
-          ∙ ap (λ (x : ℕ). valued (found x (next (operation_at w i) (s.rows o)))) (serving.key_stored k.entry)
+    cell_right : state_after operation.number operation.value (valued (found_of held))
+        ≡ valued (found (entry_key w i) (next (operation_at w i) (s.rows o)))
+    cell_right =
+        ap₂ (λ (n v : ℕ). state_after n v (valued (found_of held))) number_stored value_stored
+        ∙ ap (state_after (number_of (operation_at w i)) (value_of (operation_at w i))) held_stored
+        ∙ changed_right (s.rows o) (operation_at w i) k.keyed (serving.ordered_here k.entry s)
+        ∙ ap (λ (x : ℕ). valued (found x (next (operation_at w i) (s.rows o)))) (serving.key_stored k.entry)
 
     -- ---- What the code leaves
 
-    module _ (given : Answer) (gives : given ≡ keyed_answer operation.number (answer_of held) (get_or counts o 0))
-        (test : Bool) (tested : serving.Tests w i given test) where
-      pub refused : not test ≡ true → KeyedServed w i cells counts cells counts false
-      refused f tops below s = (
+    module _ (given : Answer)
+        (gives : given ≡ keyed_answer operation.number (valued (found_of held)) (get_or state.counts o 0)) where
+      pub refused : (given ≡ (entry_at w i).entry.answer → ⊥) → AfterEntry w i state false
+      refused other = (
         λ e. absurd (true≢false (sym e)),
-        λ e. serving.wrong k.entry s (λ right. denied tested (not-true test f) (gives ∙ given_right_lem s ∙ right)),
+        λ e. serving.wrong k.entry s (λ right. other (gives ∙ given_right_lem ∙ right)),
       )
 
-      pub served : not test ≡ false → (changes : coded.Answer)
-          → answer_of changes ≡ state_after operation.number operation.value (answer_of held)
-          → (after : ℕ) → after ≡ count_after operation.number held.code (get_or counts o 0)
-          → KeyedServed w i cells counts (set (set cells (2 * p) changes.code) (2 * p + 1) changes.value)
-          (set counts o after) true
-      served f changes c after a tops below s = (
-        λ e.
-            turn s (sym (gives ∙ given_right_lem s) ∙ tested.0 (not-false test f)) after (a ∙ after_right s)
-            changes.code changes.value (c ∙ cell_right s),
+      pub served : given ≡ (entry_at w i).entry.answer → (changes : Option ℕ)
+          → valued (found_of changes) ≡ state_after operation.number operation.value (valued (found_of held))
+          → (after : ℕ) → after ≡ count_after operation.number (valued (found_of held)).code (get_or state.counts o 0)
+          → AfterEntry w i (record {
+            cells = set state.cells p changes;
+            counts = set state.counts o after;
+            tops = state.tops;
+            below = state.below;
+          }) true
+      served right changes c after a = (
+        λ e. turn (sym (gives ∙ given_right_lem) ∙ right) after (a ∙ after_right) changes (c ∙ cell_right),
         λ e. absurd (true≢false e),
       )

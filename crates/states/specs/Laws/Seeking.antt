@@ -43,9 +43,6 @@ pub record Seeking (w : List ℕ) (o key low left : ℕ) : Type 0 where
   pub between : (p : ℕ) → p < word w (object_start o + 1) → (row_at w o p).key ≡ key → (low ≤ p) × (p < low + left)
 
 module _ (w : List ℕ) (o key : ℕ) where
-  pub seek_start : (left : ℕ) → left ≡ word w (object_start o + 1) → Seeking w o key 0 left
-  seek_start left e = record { within = omega arith; between = λ p l h. (omega arith, omega arith) }
-
   module _ (ascending : Ascending (rows_at w o)) {low left : ℕ} (s : Seeking w o key low left) where
     rises : (p q : ℕ) → p < q → q < word w (object_start o + 1) → (row_at w o p).key < (row_at w o q).key
     rises = rising (word w (object_start o + 1)) (row_at w o) ascending

@@ -1,12 +1,14 @@
 -- The state while entries are served: at the start, at an entry, after it, and at the end.
-use Rattle.std.specs.Prelude.{ℕ, ◌+◌, ◌≤◌, ◌<◌, ◌≡◌, refl, Bool, true, cond, ◌↔◌, List, ◌∷◌, eqb, length, get_or, set}
+use Rattle.std.specs.Prelude.{ℕ, ◌+◌, ◌≤◌, ◌<◌, ◌≡◌, refl, Bool, true, cond, ◌&&◌, ◌↔◌, List, ◌∷◌, eqb, length}
+use Rattle.std.specs.Prelude.{get_or, set}
 use Rattle.std.proofs.Common.{sym, ap, ap₂, ◌∙◌, subst, arith, eq-eqb, ne_eqb, get_or-set_same, get_or-set_other}
 use Rattle.std.proofs.Math.Option.{some, some-injective}
+use Rattle.std.proofs.lemmas.Bool.Decides.{nat_tests}
+use Rattle.std.specs.Cmp.Derive.{both_true}
 use Rattle.operations.specs.Operations.{Kind, Stack, Set, Table, Row, Operation, Answer, answering, kind_of, key_of}
 use Rattle.operations.specs.Operations.{next}
 use Rattle.operations.specs.Operations.{answer, WellFormed, reduce_key}
 use Rattle.operations.specs.Log.{Answered}
-use Rattle.operations.specs.declared.Operation as code
 use Rattle.operations.specs.declared.Answer as coded
 use Rattle.operations.specs.Stored.{answer_of}
 use Rattle.operations.proofs.Laws.Cases.{same}
@@ -14,11 +16,12 @@ use Rattle.operations.specs.Operations.{adds}
 use Rattle.store.specs.Layout.{word, entry_start, operation_at, entry_at, rows_at, base}
 use Rattle.store.proofs.Laws.Reading.{kind_below}
 use Rattle.store.proofs.Laws.Capacity.{grows}
-use Rattle.representatives.specs.Representatives.{entry_number, entry_key}
+use Rattle.representatives.specs.Representatives.{entry_key}
 use Rattle.representatives.specs.Laws.Reading.{of_kind_lem}
 use Rattle.store.proofs.Laws.Entries.{entries_from, entries_own, entries_other, entries_end}
 use Rattle.answers.specs.Laws.Entries.{at_most_one}
 use Rattle.answers.specs.Laws.Whole.{row_count, rows_read}
+use Rattle.states.specs.declared.State.{State}
 use Rattle.states.specs.States.{kind_at, Ordered, AllAnswered, Sized, Serving, Formed, EntryOn, RowCounts}
 use Rattle.states.specs.Laws.Cells.{ordered_next}
 use Rattle.states.specs.Laws.Stacks.{stacked_start}
@@ -36,9 +39,9 @@ module _ {w : List ℕ} (formed : Formed w) where
   ordered_first o kind k =
       ordered_of kind (rows_at w o) (rw (rows_read w o (kind_below base w o kind k)) at (formed.rows o kind k))
 
-  pub start : (cells counts tops below : List ℕ) → Sized cells counts tops below → RowCounts w 16 counts
-      → ((o : ℕ) → o < 16 → get_or tops o 0 ≡ 0) → Serving w 0 cells counts tops below
-  start cells counts tops below sized counted empty =
+  pub start : (state : State) → Sized state → RowCounts w 16 state.counts
+      → ((o : ℕ) → o < 16 → get_or state.tops o 0 ≡ 0) → Serving w 0 state
+  start state sized counted empty =
       record {
         sized = sized;
         rows = rows_at w;
@@ -47,22 +50,16 @@ module _ {w : List ℕ} (formed : Formed w) where
         counted = λ o l. counted.rows o l ∙ sym (row_count w o);
         cell = λ j l f k. absurd (omega arith);
         fresh = λ o k u n. refl;
-        stack = λ o l k. stacked_start w (rows_at w o) (get_or tops o 0) below (empty o l);
+        stack = λ o l k. stacked_start w (rows_at w o) (get_or state.tops o 0) state.below (empty o l);
         left = Iff.rfl;
       }
 
-pub served_all : {w : List ℕ} {i : ℕ} {cells counts tops below : List ℕ} → Serving w i cells counts tops below
-    → word w 0 ≤ i → AllAnswered w 0 (rows_at w)
+pub served_all : {w : List ℕ} {i : ℕ} {state : State} → Serving w i state → word w 0 ≤ i → AllAnswered w 0 (rows_at w)
 served_all {w} {i} s l = s.left.0 (λ o m. rw (entries_end w i o l) tt)
 
 -- ---- At an entry
 
--- What was read of an entry's operation, and of its answer.
-abbrev pub OperationRead : List ℕ → ℕ → code.Operation → Type 0
-OperationRead w i operation =
-    (operation.number ≡ entry_number w i) × (operation.key ≡ entry_key w i)
-    × (operation.value ≡ word w (entry_start i + 4))
-
+-- What was read of an entry's answer.
 abbrev AnswerRead : List ℕ → ℕ → coded.Answer → Type 0
 AnswerRead w i answer = (answer.code ≡ word w (entry_start i + 5)) × (answer.value ≡ word w (entry_start i + 6))
 
@@ -87,13 +84,19 @@ module _ {w : List ℕ} {i o : ℕ} (e : EntryOn w i o) where
   pub key_stored : key_of (operation_at w i) ≡ entry_key w i
   key_stored = (e.formed.packed.log.as_stored i e.inside).1
 
-  pub tests : (given : Answer) (answer : coded.Answer) (test : Bool) → AnswerRead w i answer
-      → (test ≡ true) ↔ (given ≡ answer_of answer) → Tests w i given test
-  tests given answer test read tested =
-      let same : answer_of answer ≡ (entry_at w i).entry.answer = ap₂ answering read.0 read.1 in
-      (λ e. tested.0 e ∙ same, λ e. tested.1 (e ∙ sym same))
+  -- the entry's answer compared with another
+  pub tests : (answer given : coded.Answer) → AnswerRead w i answer
+      → Tests w i (answer_of given) (eqb answer.code given.code && eqb answer.value given.value)
+  tests answer given read =
+      let is : answer_of answer ≡ (entry_at w i).entry.answer = ap₂ answering read.0 read.1 in (
+        λ e. ap₂ answering (grind (arith, nat_tests)) (grind (arith, nat_tests)) ∙ is,
+        λ e.
+            let equal : answer_of given ≡ answer_of answer = e ∙ sym is in
+            both_true (eq-eqb _ _ (sym (ap (λ (r : Answer). r.code) equal)))
+            (eq-eqb _ _ (sym (ap (λ (r : Answer). r.value) equal))),
+      )
 
-  module _ {cells counts tops below : List ℕ} (s : Serving w i cells counts tops below) where
+  module _ {state : State} (s : Serving w i state) where
     pub ordered_here : Ordered (kind_of (operation_at w i)) (s.rows o)
     ordered_here = s.ordered o (kind_of (operation_at w i)) kind_here
 
@@ -138,11 +141,11 @@ module _ {w : List ℕ} {i o : ℕ} (e : EntryOn w i o) where
         (λ (d : q ≡ o → ⊥). rw (rows_other q d) (omega (arith, s.few q m)))
 
     pub counted_after : (n : ℕ) → n ≡ length (next (operation_at w i) (s.rows o)) → (q : ℕ) → q < 16
-        → get_or (set counts o n) q 0 ≡ length (rows_after q)
+        → get_or (set state.counts o n) q 0 ≡ length (rows_after q)
     counted_after n c q m =
-        let small : o < length counts = omega (arith, placed, s.sized.of_counts) in
-        same q o (λ (d : q ≡ o). rw (d, rows_own) (get_or-set_same counts o n 0 small ∙ c))
-        (λ (d : q ≡ o → ⊥). rw (rows_other q d) (get_or-set_other counts o q n 0 d ∙ s.counted q m))
+        let small : o < length state.counts = omega (arith, placed, s.sized.of_counts) in
+        same q o (λ (d : q ≡ o). rw (d, rows_own) (get_or-set_same state.counts o n 0 small ∙ c))
+        (λ (d : q ≡ o → ⊥). rw (rows_other q d) (get_or-set_other state.counts o q n 0 d ∙ s.counted q m))
 
     pub left_after : Right → AllAnswered w (i + 1) rows_after ↔ AllAnswered w 0 (rows_at w)
     left_after right = Iff.trans (λ h q m. (step q).0 (h q m), λ h q m. (step q).1 (h q m)) s.left

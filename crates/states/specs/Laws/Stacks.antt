@@ -1,8 +1,9 @@
 -- A stack's rows as rows of the book with the items of linked entries on them.
 use Rattle.std.specs.Prelude.{ℕ, zero, suc, ◌+◌, ◌-◌, ◌≤◌, ◌<◌, ◌≡◌, refl, List, [], ◌∷◌, length, get_or, take, set}
-use Rattle.std.proofs.Common.{sym, ap, ◌∙◌, subst, arith, length-append, get_or-take, get_or-set_same, get_or-set_other}
+use Rattle.std.proofs.Common.{sym, ap, ◌∙◌, subst, arith, get_or-take, get_or-set_same, get_or-set_other}
 use Rattle.std.proofs.Common.{take-take, length-take-le}
-use Rattle.std.proofs.Math.Option.{none, some}
+use Rattle.std.proofs.Math.Option.{some}
+use Rattle.std.specs.Prelude.{Some}
 use Rattle.std.proofs.lemmas.List.{set-get_or}
 use Rattle.std.proofs.Math.Seq.{take-length}
 use Rattle.operations.specs.Operations.{Row, row, answering, valued, push, pop, stack_next, top_item}
@@ -11,6 +12,7 @@ use Rattle.store.specs.Layout.{word, object_start, row_at, rows_at}
 use Rattle.store.proofs.Laws.Lists.{get_d_tabulate}
 use Rattle.representatives.specs.Representatives.{entry_key}
 use Rattle.answers.specs.Laws.Whole.{row_count}
+use Rattle.states.specs.declared.State.{State}
 use Rattle.states.specs.States.{pushed_on, LinkedDown, Stacked, TopBy}
 
 -- Entries below i are linked as before, whatever is written at i.
@@ -47,11 +49,6 @@ module _ {w : List ℕ} {i : ℕ} {first rows : List Row} {top : ℕ} {below : L
 
   pub depth_of_first : top ≡ 0 → length rows ≤ length first
   depth_of_first z = omega (arith, ap length (of_first z), length-take-le s.low first s.within, s.within)
-
-  pub not_empty : (top ≡ 0 → ⊥) → 0 < length rows
-  not_empty n =
-      by_top (λ t h. absurd (n t))
-      (λ e es l h. omega (arith, ap length h, length-append (pushed_on w bottom es) (row (entry_key w e) 0 ∷ [])))
 
   -- ---- After an operation; b is what is written at i
 
@@ -123,33 +120,26 @@ top_at (r ∷ rs) t e =
     get_d_any (x ∷ l) zero d e m = refl
     get_d_any (x ∷ l) (suc p) d e m = get_d_any l p d e (omega arith)
 
-top_none : (rs : List Row) → length rs ≡ 0 → top_item rs ≡ none
-top_none [] e = refl
-top_none (r ∷ rs) e = absurd (omega arith)
-
-module _ (w : List ℕ) (o count top : ℕ) where
-  pub top_pushed : (top ≡ 0 → ⊥) → (x : ℕ) → x ≡ entry_key w (top - 1) → TopBy w o count top (answering 1 x)
-  top_pushed n x named i rows below s c =
-      by_top s (λ t h. absurd (n t))
+module _ (w : List ℕ) (o : ℕ) (state : State) where
+  pub top_pushed : (j x : ℕ) → j + 1 ≡ get_or state.tops o 0 → x ≡ entry_key w j → TopBy w o state (Some x)
+  top_pushed j x at named i rows s c =
+      by_top s (λ t h. absurd (omega arith))
       (λ e es l h.
-      let at : top - 1 ≡ e = omega (arith, l.0) in
-      ap (λ (j : ℕ). answering 1 j) (named ∙ ap (entry_key w) at)
+      let same : j ≡ e = omega (arith, l.0) in
+      ap (λ (v : ℕ). answering 1 v) (named ∙ ap (entry_key w) same)
       ∙ ap valued (sym (ap top_item h ∙ top_of_pushed (entry_key w e) (pushed_on w (take s.low (rows_at w o)) es))))
 
-  pub top_empty : count ≡ 0 → TopBy w o count top (answering 0 0)
-  top_empty z i rows below s c = ap valued (sym (top_none rows (c ∙ z)))
-
-  pub top_first : top ≡ 0 → (count ≡ 0 → ⊥) → (t x : ℕ) → t ≡ count - 1 → x ≡ (row_at w o t).key
-      → TopBy w o count top (answering 1 x)
-  top_first z n t x q named i rows below s c =
+  pub top_first : get_or state.tops o 0 ≡ 0 → (t x : ℕ) → get_or state.counts o 0 ≡ t + 1 → x ≡ (row_at w o t).key
+      → TopBy w o state (Some x)
+  top_first z t x q named i rows s c =
       let h : rows ≡ take s.low (rows_at w o) = of_first s z in
       let m : length rows ≡ s.low = ap length h ∙ length-take-le s.low (rows_at w o) s.within in
       ap (λ (j : ℕ). answering 1 j) named
       ∙ ap valued
       (sym
-      (top_at rows t (omega (arith, c, n))
+      (top_at rows t (omega (arith, c, q))
       ∙ ap (λ (r : Row). some r.key)
       (ap (λ (l : List Row). get_or l t (row 0 0)) h ∙ get_or-take s.low (rows_at w o) t (row 0 0)
-      (omega (arith, c, n, m, q))
+      (omega (arith, c, m, q))
       ∙ get_d_tabulate (word w (object_start o + 1)) (row_at w o) t (row 0 0)
-      (omega (arith, c, n, m, q, s.within, row_count w o)))))
+      (omega (arith, c, m, q, s.within, row_count w o)))))

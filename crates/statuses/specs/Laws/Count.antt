@@ -1,42 +1,39 @@
--- How many of the first transactions are pseudo-committed.
-use Rattle.std.specs.Prelude.{ℕ, ◌+◌, ◌<◌, ◌≤◌, ◌≡◌, refl, List, [], ◌∷◌, ◌++◌}
-use Rattle.std.proofs.Math.Path.{ap}
-use Rattle.std.proofs.Common.{add-one, arith}
-use Rattle.bitset.specs.Laws.{bit}
-use Rattle.store.specs.Store.{Status, absent, active, pseudo_committed, pseudo_committed_in}
-use Rattle.store.specs.Layout.{word, tabulate, status_at, read_status}
-use Rattle.store.proofs.Laws.Lists.{tabulate_zero, tabulate_snoc}
-use Rattle.statuses.specs.Laws.Words.{finished_read}
+-- How many transactions are pseudo-committed.
+use Rattle.std.specs.Prelude.{ℕ, zero, suc, ◌+◌, ◌≡◌, refl, List, [], ◌∷◌, map, ltb, count_by, length, cond, get_or}
+use Rattle.std.specs.Prelude.{take, drop}
+use Rattle.std.proofs.Common.{lt-ltb, ap, ◌∙◌, sym, arith}
+use Rattle.std.proofs.lemmas.List.Recursion.{is_count_by}
+use Rattle.store.specs.Store.{Status, pseudo_committed_in, pseudo_committed_count}
+use Rattle.store.specs.Layout.{base, decode, BookLong, tabulate, status_at, read_status}
+use Rattle.store.proofs.Laws.Lists.{tabulate_same}
+use Rattle.statuses.specs.Laws.Words.{own_word, own_words, own_read}
 
-finished_last : (l : List Status) (status : Status)
-    → pseudo_committed_in (l ++ (status ∷ [])) ≡ pseudo_committed_in l + pseudo_committed_in (status ∷ [])
-finished_last [] status = omega arith
-finished_last (absent ∷ l) status = finished_last l status
-finished_last (active ∷ l) status = finished_last l status
-finished_last (pseudo_committed rank ∷ l) status = omega (arith, finished_last l status)
+-- Of the statuses that words are read as.
+committed_words : List ℕ → ℕ
+committed_words ws = pseudo_committed_in (map read_status ws)
 
-finished_one : (x : ℕ) → 1 < x → pseudo_committed_in (read_status x ∷ []) ≡ 1
-finished_one x l = rw (finished_read x l)
+one_word : (x : ℕ) (ws : List ℕ)
+    → committed_words (x ∷ ws) ≡ cond (ltb 1 x) (1 + committed_words ws) (committed_words ws)
+unfolding committed_words
+one_word zero ws = refl
+one_word (suc zero) ws = refl
+one_word (suc (suc rank)) ws = rw (lt-ltb 1 (suc (suc rank)) (omega arith)) (omega arith)
 
-other_none : (x : ℕ) → x < 2 → pseudo_committed_in (read_status x ∷ []) ≡ 0
-other_none = bit (λ x. pseudo_committed_in (read_status x ∷ []) ≡ 0) refl refl
+counted_words : (ws : List ℕ) → committed_words ws ≡ count_by (λ (x : ℕ). ltb 1 x) ws
+unfolding committed_words
+counted_words = is_count_by committed_words (λ (x : ℕ). ltb 1 x) refl one_word
 
-module _ (w : List ℕ) where
-  unfoldable pub count_upto : ℕ → ℕ
-  count_upto n = pseudo_committed_in (tabulate n (status_at w))
+read_one_by_one : (ws : List ℕ) → tabulate (length ws) (λ t. read_status (get_or ws t 0)) ≡ map read_status ws
+unfolding tabulate
+read_one_by_one [] = refl
+read_one_by_one (x ∷ ws) = ap (λ (l : List Status). read_status x ∷ l) (read_one_by_one ws)
 
-  pub count_start : count_upto 0 ≡ 0
-  unfolding count_upto
-  count_start = ap pseudo_committed_in (tabulate_zero (status_at w))
-
-  module _ (n : ℕ) where
-    count_next : count_upto (n + 1) ≡ count_upto n + pseudo_committed_in (read_status (word w (1 + n)) ∷ [])
-    unfolding count_upto
-    count_next = rw (add-one n, tabulate_snoc n (status_at w)) (finished_last (tabulate n (status_at w))
-        (status_at w n))
-
-    pub count_more : (status : ℕ) → status ≡ word w (1 + n) → 1 < status → count_upto (n + 1) ≡ count_upto n + 1
-    count_more status e l = rw (count_next, finished_one (word w (1 + n)) (omega arith))
-
-    pub count_same : (status : ℕ) → status ≡ word w (1 + n) → status ≤ 1 → count_upto (n + 1) ≡ count_upto n
-    count_same status e l = rw (count_next, other_none (word w (1 + n)) (omega arith)) (omega arith)
+pub pseudo_committed_counted : (w : List ℕ) (n : ℕ) → BookLong w
+    → n ≡ count_by (λ (x : ℕ). ltb 1 x) (take 64 (drop 1 w)) → n ≡ pseudo_committed_count (decode base w)
+unfolding committed_words
+pseudo_committed_counted w n long e =
+    let ws = take 64 (drop 1 w) in
+    e ∙ sym (counted_words ws) ∙ ap pseudo_committed_in (sym (read_one_by_one ws))
+    ∙ ap (λ (m : ℕ). pseudo_committed_in (tabulate m (λ t. read_status (own_word w t)))) (own_words w long)
+    ∙ ap pseudo_committed_in (tabulate_same 64 (λ t. read_status (own_word w t)) (status_at w)
+    (λ t l. ap read_status (own_read w t l)))

@@ -1,12 +1,13 @@
 -- Sets gathered in a pass.
 use Rattle.std.specs.Prelude.{ℕ, zero, suc, ◌+◌, ◌/◌, ◌<◌, ◌≡◌, refl, Bool, true, false, ◌&&◌, ◌||◌, ◌↔◌, ◌⊎◌, eqb}
+use Rattle.std.specs.Prelude.{Option, None, Some, MatchOption}
 use Rattle.std.proofs.Common.{sym, ap, ◌∙◌, subst, inl, inr, ⊎_elim, not-suc-le-zero, arith, eqb-true, eq-eqb}
 use Rattle.std.proofs.lemmas.Bool.{false≢true}
 use Rattle.std.proofs.Math.Bool.{or-false, or-true}
 use Rattle.bitset.specs.Bitset.{has, Members, Holds}
 use Rattle.bitset.specs.Laws.{no_member, half, same_members, either}
 use Rattle.operations.proofs.Laws.Cases.{same}
-use Rattle.statuses.specs.Statuses.{Downward}
+use Rattle.statuses.specs.Statuses.{Downward, Ordered}
 
 absorbed : (a b : Bool) → (b ≡ true → a ≡ true) → (a || b) ≡ a
 absorbed true b h = refl
@@ -84,3 +85,9 @@ module _ (set next : ℕ) (members : Members next (λ h. has set h || has (set /
         ∙ ap (λ (b : Bool). has set n || b) h ∙ or-true (has set n),
     λ down. eq-eqb next set (same_members next set (λ n. above n ∙ absorbed (has set n) (has set (suc n)) (down n))),
   )
+
+-- A Boolean that answers for the ranks, if there are any, whether they are in order.
+pub ordered : (ranks : Option ℕ) (b : Bool) → MatchOption ranks (b ≡ false) (λ seen. (b ≡ true) ↔ Downward seen)
+    → (b ≡ true) ↔ Ordered ranks
+ordered None b none = (λ e. absurd (false≢true (sym none ∙ e)), λ p. absurd p)
+ordered (Some seen) b tells = tells

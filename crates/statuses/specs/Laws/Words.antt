@@ -1,16 +1,26 @@
 -- What a status word says.
-use Rattle.std.specs.Prelude.{ℕ, zero, suc, ◌+◌, ◌-◌, ◌<◌, ◌≤◌, ◌≡◌, refl, true, false, ◌||◌, ◌↔◌, ◌⊎◌, List, eqb, ltb}
-use Rattle.std.proofs.Common.{ap, inl, inr, arith, ltb-true, lt-ltb}
+use Rattle.std.specs.Prelude.{ℕ, zero, suc, ◌+◌, ◌-◌, ◌<◌, ◌≤◌, ◌≡◌, refl, true, ◌↔◌, List, ltb, Option}
+use Rattle.std.proofs.Common.{ap, ◌∙◌, arith, ltb-true, lt-ltb, get_or, take, drop, get_or-drop, length, length-drop}
+use Rattle.std.proofs.Common.{length-take-le}
+use Rattle.std.proofs.lemmas.List.{get_or-take}
 use Rattle.std.proofs.lemmas.Bool.{false≢true}
-use Rattle.bitset.specs.Bitset.{has, Members}
 use Rattle.bitset.specs.Laws.{bit}
 use Rattle.store.specs.Store.{absent, pseudo_committed, Live, PseudoCommitted}
-use Rattle.store.specs.Layout.{base, decode, status_word, read_status, word}
+use Rattle.store.specs.Layout.{BookLong, base, decode, status_word, read_status, word}
 use Rattle.store.proofs.Laws.Encoding.{status_written}
 use Rattle.store.proofs.Laws.Reading.{status_read, live_below}
 use Rattle.store.proofs.Laws.Statuses.{pseudo_committed_live}
-use Rattle.statuses.specs.declared.Ranks.{Ranks}
 use Rattle.statuses.specs.Statuses.{Noted}
+
+-- The word of transaction t, in the part of the book that has the statuses.
+abbrev pub own_word : List ℕ → ℕ → ℕ
+own_word w t = get_or (take 64 (drop 1 w)) t 0
+
+pub own_words : (w : List ℕ) → BookLong w → length (take 64 (drop 1 w)) ≡ 64
+own_words w long = length-take-le 64 (drop 1 w) (rw length-drop (omega arith))
+
+pub own_read : (w : List ℕ) (t : ℕ) → t < 64 → own_word w t ≡ word w (1 + t)
+own_read w t l = get_or-take 64 (drop 1 w) t 0 l ∙ get_or-drop 1 w t 0
 
 pub finished_read : (x : ℕ) → 2 ≤ x → read_status x ≡ pseudo_committed (x - 2)
 finished_read zero l = absurd (omega arith)
@@ -43,16 +53,11 @@ finished_below w t p = live_below base w t (pseudo_committed_live (decode base w
 
 -- ---- Ranks with one word more
 
-module _ (ranks : Ranks) (status : ℕ) where
-  pub noted_none : status < 2 → Noted (read_status status) ranks ranks
-  noted_none l = bit (λ x. Noted (read_status x) ranks ranks) refl refl status l
+-- A word below 2 has none,
+pub noted_none : (ranks : Option ℕ) (status : ℕ) → status < 2 → Noted (read_status status) ranks ranks
+noted_none ranks = bit (λ x. Noted (read_status x) ranks ranks) refl refl
 
-  module _ (l : 2 ≤ status) where
-    pub noted_again : (64 ≤ status - 2) ⊎ (has ranks.seen (status - 2) ≡ true)
-        → Noted (read_status status) ranks (record { seen = ranks.seen; once = false })
-    noted_again old = rw (finished_read status l) (inr (old, refl))
-
-    pub noted_new : (next : ℕ) → status - 2 < 64 → has ranks.seen (status - 2) ≡ false
-        → Members next (λ h. has ranks.seen h || eqb h (status - 2))
-        → Noted (read_status status) ranks (record { seen = next; once = ranks.once })
-    noted_new next m new members = rw (finished_read status l) (inl (m, new, members, refl))
+-- and the others each have one.
+pub noted_rank : (ranks after : Option ℕ) (status : ℕ) → 2 ≤ status → Noted (pseudo_committed (status - 2)) ranks after
+    → Noted (read_status status) ranks after
+noted_rank ranks after status l noted = rw (finished_read status l) noted

@@ -1,65 +1,46 @@
--- Status words written, and the store that the book then holds.
-use Prim.Native.Nat.{ℕ, zero, suc, ◌+◌, ◌-◌, ◌<◌, ◌≤◌}
-use Rattle.std.specs.Prelude.{◌≡◌, true, false, ltb, get_or, set}
+-- Status words lowered, and the store that the book then holds.
+use Prim.Native.Nat.{ℕ, ◌+◌, ◌<◌, ◌≤◌}
+use Rattle.std.specs.Prelude.{◌≡◌, take, drop, set, get_or}
 use Rattle.std.proofs.Math.Path.{refl}
-use Rattle.std.proofs.Common.{sym, ap, ap₂, ◌∙◌, ltb-true}
-use mathlib.Core.List.{List, [], ◌∷◌, ◌++◌, map, append_assoc}
-use native.Mathlib.Omega.{arith}
-use Rattle.std.proofs.Math.ListN.{length, length-append, length-map}
-use Rattle.std.proofs.Math.Seq.{set-append_seam, get_or-append_seam}
-use Rattle.bitset.specs.Laws.{bit}
+use Rattle.std.proofs.Common.{sym, ap, ap₂, ◌∙◌, drop_at, take_all, append-nil, arith}
+use Rattle.std.proofs.lemmas.List.{get_or_default}
+use Rattle.std.proofs.lemmas.List.Edits.{map_over_more}
+use Rattle.std.proofs.Math.ListN.{drop_of_length-le}
+use borrow.Rule.Slice.PartMut.{put_mid}
+use mathlib.Core.List.{List, [], ◌∷◌, ◌++◌, map}
+use Rattle.std.proofs.Math.ListN.{length, length-map}
+use Rattle.std.proofs.Math.Seq.{take-append_seam}
 use Rattle.store.specs.Store.{Status, Store}
 use Rattle.store.specs.Layout.{base, decode, encode, Packed, status_word}
 use Rattle.store.specs.Steps.{lowered, closed_up}
 use Rattle.store.proofs.Laws.Encoding.{status_read}
 use Rattle.store.proofs.Theorems.{encoded, representable}
 use Rattle.statuses.specs.Statuses.{lowered_word}
-use Rattle.statuses.specs.Laws.Words.{finished_read}
 
--- ---- All statuses in turn
+-- The words before place i changed by f, and then one more, and then all.
+module _ (f : ℕ → ℕ) (ws part : List ℕ) (i : ℕ) where
+  abbrev pub ChangedBefore : Type 0
+  ChangedBefore = part ≡ map f (take i ws) ++ drop i ws
 
-module _ (f : ℕ → ℕ) where
-  -- Words changed by f, n of them from place k.
-  unfoldable pub changed : ℕ → ℕ → List ℕ → List ℕ
-  changed zero k w = w
-  changed (suc n) k w = changed n (suc k) (set w k (f (get_or w k 0)))
+  pub changed_turn : (x : ℕ) → i < length ws → length part ≡ length ws → ChangedBefore → x ≡ f (get_or part i 0)
+      → set part i x ≡ map f (take (i + 1) ws) ++ drop (i + 1) ws
+  changed_turn x l long before e =
+      ap (set part i) e
+      ∙ map_over_more f ws part i (get_or part i 0) l before (get_or_default part i 0 (get_or part i 0) (omega arith))
 
-  changed_first : (n k : ℕ) (w : List ℕ) → changed (suc n) k w ≡ changed n (suc k) (set w k (f (get_or w k 0)))
-  unfolding changed
-  changed_first n k w = refl
+  pub changed_all : length ws ≤ i → ChangedBefore → part ≡ map f ws
+  changed_all l before =
+      before
+      ∙ ap₂ (λ (p r : List ℕ). map f p ++ r) (take_all i ws l) (drop_of_length-le ws l)
+      ∙ append-nil (map f ws)
 
-  changed_part : (p ws rest : List ℕ) → changed (length ws) (length p) (p ++ (ws ++ rest)) ≡ p ++ (map f ws ++ rest)
-  unfolding changed
-  changed_part p [] rest = refl
-  changed_part p (x ∷ ws) rest =
-      let e : length (p ++ (f x ∷ [])) ≡ suc (length p) = simp length-append (omega arith) in
-      changed_first (length ws) (length p) (p ++ (x ∷ (ws ++ rest)))
-      ∙ rw (get_or-append_seam p x (ws ++ rest) 0, set-append_seam p x (ws ++ rest) (f x))
-      (simp (e, append_assoc) at (changed_part (p ++ (f x ∷ [])) ws rest))
-
-  -- A turn of the loop over words 1 to 64, and its end.
-  pub changed_turn : (w : List ℕ) (t value : ℕ) → t < 64 → value ≡ f (get_or w (1 + t) 0)
-      → changed (64 - (t + 1)) (1 + (t + 1)) (set w (1 + t) value) ≡ changed (64 - t) (1 + t) w
-  changed_turn w t value l e =
-      let n : 64 - t ≡ suc (64 - (t + 1)) = omega arith in
-      let k : 1 + (t + 1) ≡ suc (1 + t) = omega arith in
-      rw (n, k, e) (sym (changed_first (64 - (t + 1)) (1 + t) w))
-
-  pub changed_end : (w : List ℕ) (t : ℕ) → 64 ≤ t → changed (64 - t) (1 + t) w ≡ w
-  unfolding changed
-  changed_end w t l = let e : 64 - t ≡ 0 = omega arith in rw e
+-- A part of the book changed.
+mapped_part : (f : ℕ → ℕ) (x : ℕ) (ws rest : List ℕ)
+    → put_mid 1 (length ws) (x ∷ (ws ++ rest)) (map f (take (length ws) (ws ++ rest))) ≡ x ∷ (map f ws ++ rest)
+mapped_part f x ws rest =
+    ap₂ (λ (p r : List ℕ). x ∷ (map f p ++ r)) (take-append_seam ws rest) (drop_at ws rest (length ws) refl)
 
 module _ (out : ℕ) where
-  module _ (status : ℕ) where
-    pub lowered_down : 2 ≤ status → ltb out (status - 2) ≡ true → status - 1 ≡ lowered_word out status
-    lowered_down l e = rw (finished_read status l, e) (omega (arith, ltb-true out (status - 2) e))
-
-    pub lowered_kept : 2 ≤ status → ltb out (status - 2) ≡ false → status ≡ lowered_word out status
-    lowered_kept l e = rw (finished_read status l, e) (omega arith)
-
-  pub unranked_kept : (status : ℕ) → status < 2 → status ≡ lowered_word out status
-  unranked_kept = bit (λ x. x ≡ lowered_word out x) refl refl
-
   words_lowered : (l : List Status) → map (lowered_word out) (map status_word l) ≡ map status_word (map (lowered out) l)
   words_lowered [] = refl
   words_lowered (x ∷ l) =
@@ -67,16 +48,20 @@ module _ (out : ℕ) where
       (ap (λ (y : Status). status_word (lowered out y)) (status_read x)) (words_lowered l)
 
   store_lowered : (s : Store) → length s.statuses ≡ 64
-      → changed (lowered_word out) 64 1 (encode base s) ≡ encode base (closed_up out s)
+      → put_mid 1 64 (encode base s) (map (lowered_word out) (take 64 (drop 1 (encode base s))))
+      ≡ encode base (closed_up out s)
   unfolding encode
   store_lowered s l =
       let size : length (map status_word s.statuses) ≡ 64 = length-map s.statuses status_word ∙ l in
       rw (← words_lowered s.statuses)
-      (ap (λ (n : ℕ). changed (lowered_word out) n 1 (encode base s)) (sym size)
-      ∙ changed_part (lowered_word out) (length s.log ∷ []) (map status_word s.statuses) _)
+      (ap
+      (λ (n : ℕ). put_mid 1 n (encode base s) (map (lowered_word out) (take n (drop 1 (encode base s)))))
+      (sym size)
+      ∙ mapped_part (lowered_word out) (length s.log) (map status_word s.statuses) _)
 
-  pub all_lowered : (w : List ℕ) → Packed base w
-      → changed (lowered_word out) 64 1 w ≡ encode base (closed_up out (decode base w))
-  all_lowered w packed =
-      ap (changed (lowered_word out) 64 1) (sym (encoded w packed))
+  pub all_lowered : (w part : List ℕ) → Packed base w → part ≡ map (lowered_word out) (take 64 (drop 1 w))
+      → put_mid 1 64 w part ≡ encode base (closed_up out (decode base w))
+  all_lowered w part packed e =
+      ap (put_mid 1 64 w) e
+      ∙ ap (λ (b : List ℕ). put_mid 1 64 b (map (lowered_word out) (take 64 (drop 1 b)))) (sym (encoded w packed))
       ∙ store_lowered (decode base w) (representable w packed).statuses

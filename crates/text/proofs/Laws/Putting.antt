@@ -1,11 +1,8 @@
 -- Texts put one after the other.
-use Rattle.std.specs.Prelude.{ℕ, suc, ◌+◌, ◌-◌, ◌≤◌, ◌<◌, ◌≡◌, refl, List, [], ◌∷◌, ◌++◌, length, take, drop, set}
-use Rattle.std.proofs.Common.{sym, ap, ap₂, ◌∙◌, append_assoc, append-nil, arith, add-zero, add-one, length-append}
-use Rattle.std.proofs.Common.{length-drop, take-append-drop, drop_of_length-le, take_at, drop_at, drop-drop}
-use Rattle.std.proofs.Common.{length-take-le, take_all}
-use borrow.Rule.Slice.PartMut.{mid_of, put_mid}
-use Rattle.std.proofs.lemmas.List.{set_split}
-use Rattle.std.proofs.Math.Seq.{append_snoc, take-length}
+use Rattle.std.specs.Prelude.{ℕ, ◌+◌, ◌≤◌, ◌≡◌, List, [], ◌++◌, length, take, drop}
+use Rattle.std.proofs.Common.{sym, ap, ap₂, ◌∙◌, append_assoc, append-nil, arith, add-zero, length-append}
+use Rattle.std.proofs.Common.{length-drop, take-append-drop, take_at, drop_at, drop-drop}
+use Rattle.std.proofs.Common.{length-take-le}
 use Rattle.text.specs.Text.{put}
 use Rattle.text.specs.Fields.{Put}
 
@@ -52,32 +49,4 @@ then {out} {text} {out₁} {more} {out₂} {at} {end} first fits second =
           second.buffer ∙ ap₂ (λ (o : List ℕ) (n : ℕ). put o n more) first.buffer first.behind
           ∙ put_put out at text fits more;
       behind = second.behind ∙ omega (arith, first.behind, length-append text more);
-    }
-
--- A byte stored.
-pub stored : (out : List ℕ) (at b : ℕ) → at < length out → Put out at (b ∷ []) (set out at b) (at + 1)
-stored out at b within =
-    record {
-      buffer =
-          set_split out at b within ∙ sym (append_snoc (take at out) b (drop (suc at) out))
-          ∙ ap (λ (n : ℕ). take at out ++ (b ∷ []) ++ drop n out) (sym (add-one at));
-      behind = refl;
-    }
-
--- A text copied into the part of a buffer that starts at a place.
-pub copied : (out : List ℕ) (at : ℕ) (text part : List ℕ) (n : ℕ) → at + length text ≤ length out → n ≡ length text
-    → part ≡ take (length text) text ++ drop (length text) (mid_of at (length out - at) out)
-    → Put out at text (put_mid at (length out - at) out part) (at + n)
-copied out at text part n fits whole written =
-    let size : length (drop at out) ≤ length out - at = omega (arith, length-drop at out) in
-    let all : part ≡ text ++ drop (at + length text) out =
-    written
-    ∙ ap₂ (λ (x y : List ℕ). x ++ y) (take-length text)
-    (ap (drop (length text)) (take_all (length out - at) (drop at out) size) ∙ drop-drop (length text) at out) in
-    record {
-      buffer =
-          ap₂ (λ (x y : List ℕ). take at out ++ (x ++ y)) all (drop_of_length-le (drop at out) size)
-          ∙ ap (λ (x : List ℕ). take at out ++ x) (append-nil (text ++ drop (at + length text) out))
-          ∙ sym (append_assoc (take at out) text (drop (at + length text) out));
-      behind = ap (λ (m : ℕ). at + m) whole;
     }

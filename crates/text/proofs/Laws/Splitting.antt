@@ -1,16 +1,10 @@
--- A text goes into pieces one by one: the first ends at the first separator, where the kit's search stops.
-use Rattle.std.specs.Prelude.{ℕ, ◌≡◌, Bool, cond, eqb, take, drop}
-use Rattle.std.proofs.Math.Path.{refl, ap}
-use Rattle.std.proofs.Math.Bool.{true, false}
-use mathlib.Core.List.{List, [], ◌∷◌}
-use borrow.Author.Tests.{eqb-true}
+-- The pieces of a text, and where the first ends.
+use Rattle.std.specs.Prelude.{ℕ, ◌≤◌, ◌≡◌, refl, Bool, true, false, cond, List, [], ◌∷◌, eqb, length, drop}
+use Rattle.std.specs.List.{slice_split, onto_first}
+use Rattle.std.proofs.Common.{ap, ◌∙◌, arith, eqb-true}
+use Rattle.std.proofs.lemmas.List.Splits.{length-slice_split}
 use Rattle.text.specs.Finding.{index_after, index_of}
 use Rattle.text.specs.Text.{longer, split}
-
--- The pieces behind the first, from the separator on that ends it.
-abbrev pub further : ℕ → List ℕ → List (List ℕ)
-further separator [] = []
-further separator (b ∷ text) = split separator text
 
 -- Nothing, or a separator first.
 abbrev pub Separated : ℕ → List ℕ → Type 0
@@ -18,21 +12,6 @@ Separated separator [] = Unit
 Separated separator (b ∷ text) = b ≡ separator
 
 module _ (separator : ℕ) where
-  abbrev first_piece : ℕ → List ℕ → List (List ℕ)
-  first_piece k text = take k text ∷ further separator (drop k text)
-
-  split_step : (found : Bool) (b : ℕ) (text : List ℕ) (k : ℕ) → split separator text ≡ first_piece k text
-      → cond found ([] ∷ split separator text) (longer b (split separator text))
-      ≡ first_piece (index_after found k) (b ∷ text)
-  unfolding index_after
-  split_step true b text k e = refl
-  split_step false b text k e = ap (longer b) e
-
-  pub split_first : (text : List ℕ) → split separator text ≡ first_piece (index_of separator text) text
-  unfolding index_of
-  split_first [] = refl
-  split_first (b ∷ text) = split_step (eqb b separator) b text (index_of separator text) (split_first text)
-
   separated_step : (b : ℕ) (text : List ℕ) (k : ℕ) → Separated separator (drop k text) → (found : Bool)
       → eqb b separator ≡ found
       → Separated separator (drop (index_after found k) (b ∷ text))
@@ -44,3 +23,16 @@ module _ (separator : ℕ) where
   unfolding index_of
   separated [] = tt
   separated (b ∷ text) = separated_step b text (index_of separator text) (separated text) (eqb b separator) refl
+
+  put_first : (b : ℕ) (pieces : List (List ℕ)) → 1 ≤ length pieces → longer b pieces ≡ onto_first b pieces
+  put_first b [] more = absurd (omega arith)
+  put_first b (piece ∷ pieces) more = refl
+
+  -- The pieces are those of the kit's `split`.
+  pub split_is : (text : List ℕ) → split separator text ≡ slice_split (λ b. eqb b separator) text
+  split_is [] = refl
+  split_is (b ∷ text) =
+      let pieces : List (List ℕ) = slice_split (λ c. eqb c separator) text in
+      (λ i. cond (eqb b separator) ([] ∷ split_is text i) (longer b (split_is text i)))
+      ∙ ap (λ l. cond (eqb b separator) ([] ∷ pieces) l)
+      (put_first b pieces (omega (arith, length-slice_split (λ c. eqb c separator) text)))

@@ -7,16 +7,14 @@ use Rattle.operations.specs.Operations as model
 use Rattle.operations.specs.declared.Operation.{Operation}
 use Rattle.operations.specs.PairRules.{recoverable}
 use Rattle.operations.proofs.Laws.Cases.{split}
-use Rattle.operations.proofs.Laws.Numbers.{Tells}
 use Rattle.operations.specs.Log.{Entry}
 use Rattle.bitset.specs.Bitset.{has, Members, including}
 use Rattle.bitset.specs.Laws.{included, no_member, same_members}
-use Rattle.store.specs.Store.{Object, Logged, Live, object_of, on_object}
-use Rattle.store.specs.Layout.{word, decode, kind_word, entry_start, entry_at, operation_at, object_start, base}
+use Rattle.store.specs.Store.{Logged, Live, object_of, on_object}
+use Rattle.store.specs.Layout.{word, decode, entry_start, entry_at, operation_at, base}
 use Rattle.store.proofs.Laws.Lists.{all_each}
 use Rattle.store.proofs.Laws.Entries.{entries_from, log_here, entries_end}
-use Rattle.store.proofs.Laws.Objects.{kind_written}
-use Rattle.store.proofs.Laws.Reading.{object_read, live_below}
+use Rattle.store.proofs.Laws.Reading.{live_below}
 use Rattle.entry_log.specs.Log.{StoredAs}
 use Rattle.protocol.specs.Calls.{owners}
 use Rattle.waits.specs.Waits.{Asked}
@@ -53,6 +51,19 @@ pub record AtEntry (w : List ℕ) (t object : ℕ) (requested : Operation) (set 
   pub inside : i < word w 0
   pub owned : owner ≡ word w (entry_start i)
   pub placed : on ≡ word w (entry_start i + 1)
+
+-- What the code has read there.
+pub at_entry : {w : List ℕ} {t object : ℕ} {requested : Operation} {set i entries owner on : ℕ}
+    → Asked w object requested → Scanning w t object requested set i → (i ≡ entries → ⊥) → entries ≡ word w 0
+    → owner ≡ word w (entry_start i) → on ≡ word w (entry_start i + 1) → AtEntry w t object requested set i owner on
+at_entry asked state other counted owned placed =
+    record {
+      asked = asked;
+      state = state;
+      inside = omega (arith, state.within);
+      owned = owned;
+      placed = placed;
+    }
 
 module _ {w : List ℕ} {t object : ℕ} {requested : Operation} {set i owner on : ℕ}
     (at : AtEntry w t object requested set i owner on) where
@@ -132,45 +143,21 @@ module _ {w : List ℕ} {t object : ℕ} {requested : Operation} {set i owner on
               ∙ ap (λ (b : Bool). b || has (past o) h) (sym (union h));
         }
 
-  -- ---- The two operations are of the object's kind, which its word tells
-
-  module _ (e : on ≡ object) (x : ℕ) (word_read : x ≡ word w (object_start object)) (logged : Operation)
-      (words : (logged.number ≡ word w (entry_start i + 2)) × (logged.key ≡ word w (entry_start i + 3))
-      × (logged.value ≡ word w (entry_start i + 4))) where
-    logged_as_lem : StoredAs logged (operation_at w i)
-    logged_as_lem =
-        let st = at.asked.packed.log.as_stored i at.inside in
-        (words.0 ∙ sym st.0, words.1 ∙ sym st.1, words.2 ∙ sym st.2)
-
-    kind_asked : (o : model.Operation) → StoredAs requested o
-        → (object_of (decode base w) object).kind ≡ some (model.kind_of o)
-    kind_asked o s =
-        let (p, q, k) = at.asked.kinded in
-        k ∙ ap (λ (r : model.Operation). some (model.kind_of r)) (one_named requested p o q s)
-
-    kind_logged : (object_of (decode base w) object).kind ≡ some (model.kind_of (operation_at w i))
-    kind_logged =
-        ap (λ (m : ℕ). (object_of (decode base w) m).kind) (sym e ∙ at.placed)
-        ∙ all_each (λ (l : Logged).
-        (object_of (decode base w) l.object).kind ≡ some (model.kind_of l.entry.operation)) (word w 0) (entry_at w)
-        at.asked.fits i at.inside
-
-    -- The kind's word.
-    kind_word_lem : (o : model.Operation) → StoredAs requested o → x ≡ kind_word (some (model.kind_of o))
-    kind_word_lem o s =
-        word_read
-        ∙ sym (kind_written (word w (object_start object)) (at.asked.packed.objects object at.asked.below).kind)
-        ∙ ap kind_word
-        (sym (ap (λ (y : Object). y.kind) (object_read base w object at.asked.below)) ∙ kind_asked o s)
-
-    pub paired : {kind : model.Kind} → Tells x kind → (o : model.Operation) → StoredAs requested o
-        → Pair kind requested logged o (operation_at w i)
-    paired tells o s =
-        let own = tells (model.kind_of o) (kind_word_lem o s) in
-        record {
-          requested_as = s;
-          logged_as = logged_as_lem;
-          of_kind = own;
-          alike = some-injective (model.kind_of (operation_at w i)) (model.kind_of o)
-              (sym kind_logged ∙ kind_asked o s) ∙ own;
-        }
+  -- The two operations are of the object's kind.
+  pub paired : on ≡ object → (logged : Operation)
+      → (logged.number ≡ word w (entry_start i + 2)) × (logged.key ≡ word w (entry_start i + 3))
+      × (logged.value ≡ word w (entry_start i + 4))
+      → (o : model.Operation) → StoredAs requested o → Pair requested logged o (operation_at w i)
+  paired e logged words o s =
+      let st = at.asked.packed.log.as_stored i at.inside in
+      let (p, q, asked) = at.asked.kinded in
+      let fits = all_each (λ (l : Logged).
+      (object_of (decode base w) l.object).kind ≡ some (model.kind_of l.entry.operation)) (word w 0) (entry_at w)
+      at.asked.fits i at.inside in
+      record {
+        requested_as = s;
+        logged_as = (words.0 ∙ sym st.0, words.1 ∙ sym st.1, words.2 ∙ sym st.2);
+        alike = some-injective (model.kind_of (operation_at w i)) (model.kind_of o)
+            (sym (ap (λ (m : ℕ). (object_of (decode base w) m).kind) (sym e ∙ at.placed) ∙ fits) ∙ asked
+            ∙ ap (λ (r : model.Operation). some (model.kind_of r)) (one_named requested p o q s));
+      }

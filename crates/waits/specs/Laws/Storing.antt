@@ -1,7 +1,7 @@
 -- The operation asked for, as it is stored: by its number.
-use Rattle.std.specs.Prelude.{ℕ, suc, ◌-◌, ◌%◌, ◌≤◌, ◌<◌, ◌≡◌, cond, ◌||◌, ◌⊎◌, eqb, ltb}
+use Rattle.std.specs.Prelude.{ℕ, suc, ◌-◌, ◌%◌, ◌≤◌, ◌≡◌, cond, ◌||◌, ◌⊎◌, eqb, ltb}
 use Rattle.std.proofs.Common.{subst, ◌∙◌, inl, inr, ⊎_elim, arith}
-use borrow.Author.Tests.{ne_eqb, lt-ltb, le-ltb}
+use borrow.Author.Tests.{ne_eqb, le-ltb}
 use Rattle.operations.specs.Operations as model
 use Rattle.operations.specs.PairRules.{Numbered}
 use Rattle.protocol.specs.Calls.{request}
@@ -9,7 +9,7 @@ use Rattle.store.specs.Layout.{base}
 use Rattle.store.proofs.Laws.Words.{each}
 
 -- What the tests of the number pick for the key and for the value.
-abbrev pub key_for : ℕ → ℕ → ℕ
+abbrev key_for : ℕ → ℕ → ℕ
 key_for n k = cond (eqb n 1) k (cond (eqb n 10 || ltb n 4) 0 (model.reduce_key k))
 
 abbrev value_for : ℕ → ℕ → ℕ
@@ -22,18 +22,9 @@ Stored n k v key value =
     (n ≡ model.number_of o) × (key ≡ model.key_of o) × (value ≡ model.value_of o)
 
 module _ (n k : ℕ) where
-  pub item : n ≡ 1 → k ≡ key_for n k
-  item e = rw e
-
   pub reduced : (n ≡ 1 → ⊥) → (n ≡ 10 → ⊥) → 4 ≤ n → k % 16_777_216 ≡ key_for n k
   unfolding model.reduce_key
   reduced n1 n10 l = rw (ne_eqb n 1 n1, ne_eqb n 10 n10, le-ltb n 4 l)
-
-  pub keyless : (n ≡ 10) ⊎ ((n ≡ 1 → ⊥) × (n < 4)) → 0 ≡ key_for n k
-  keyless (inl e) = rw e
-  keyless (inr (n1, l)) =
-      let n10 : n ≡ 10 → ⊥ = λ e. omega arith in
-      rw (ne_eqb n 1 n1, ne_eqb n 10 n10, lt-ltb n 4 l)
 
 module _ (n k v : ℕ) where
   picked : Numbered n → Stored n k v (key_for n k) (value_for n v)

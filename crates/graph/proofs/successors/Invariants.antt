@@ -1,0 +1,7 @@
+-- `graph::successors`: an edge leads to the one depended on.
+use Rattle.std.proofs.Common.{get_or}
+use Rattle.bitset.specs.Bitset.{has}
+use Rattle.graph.proofs.successors.Given as goal
+
+abbrev pub ghost-gathered : goal.ghost-gathered
+ghost-gathered a = λ from on. has (get_or a.near.0.now from 0) on
