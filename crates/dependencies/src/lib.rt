@@ -12,7 +12,7 @@ ghost use Rattle.pairs.specs.Pairs.{code_of, first_of, width_of};
 ghost use Rattle.store.specs.Layout.{word, base, decode, Packed};
 ghost use Rattle.store.specs.Soundness.{EntriesLive, EntriesFit, EntriesRecoverable};
 ghost use Rattle.store.specs.Dependency.{DependsOn};
-ghost use Rattle.representatives.specs.Representatives.{InLog, Representative, Represented, Twin};
+ghost use Rattle.representatives.specs.Representatives.{InLog, Representative, Represented, Twin, entry_number};
 ghost use Rattle.dependencies.specs.Dependencies.{picked as Pick, PickedBoth, EntryRead, key_column as KeyColumn};
 ghost use Rattle.dependencies.specs.Dependencies.{column_in, Joined, JoinedBoth, WithoutBoth, Found, Gathered, Entered};
 
@@ -218,15 +218,15 @@ impl Rows {
 
     // Of a push, the owners of pushes of another item onto its object; of a modify, those of modifies of its key to
     // another value: who has different ones, and who has any and not this one, which the twins have.
-    fn differing(&self, entry: Entry, at: usize, twin: usize) -> u64
-        requires { (entry.object < object_count) × (at < entry_limit) × (twin < entry_limit) }
-        ensures { Found entry.number (get_or self.now.objects entry.object []) (get_or self.now.keys at [])
+    fn differing<const NUMBER: u32>(&self, object: usize, at: usize, twin: usize) -> u64
+        requires { (object < object_count) × (at < entry_limit) × (twin < entry_limit) }
+        ensures { Found NUMBER (get_or self.now.objects object []) (get_or self.now.keys at [])
             (get_or self.now.values twin 0) result }
     {
-        match entry.number {
+        match NUMBER {
             PUSH => bitset::join(
-                self.objects[entry.object][ITEMS],
-                bitset::difference(self.objects[entry.object][PUSHES], self.keys[at][PUSHES]),
+                self.objects[object][ITEMS],
+                bitset::difference(self.objects[object][PUSHES], self.keys[at][PUSHES]),
             ),
             MODIFY => bitset::join(
                 self.keys[at][VALUES],
@@ -236,61 +236,74 @@ impl Rows {
         }
     }
 
-    // The owners that bar an entry, where `others` have another item or value.
-    fn barring(&self, entry: Entry, at: usize, others: u64) -> Blockers
-        requires { Numbered entry.number × (entry.object < object_count) × (at < entry_limit) }
-        ensures { PickedBoth entry.number (get_or self.now.objects entry.object []) (get_or self.now.keys at [])
+    // The owners that bar an entry on an object, where `others` have another item or value.
+    fn barring<const NUMBER: u32>(&self, object: usize, at: usize, others: u64) -> Blockers
+        requires { Numbered NUMBER × (object < object_count) × (at < entry_limit) }
+        ensures { PickedBoth NUMBER (get_or self.now.objects object []) (get_or self.now.keys at [])
             others result }
     {
-        let whole = &self.objects[entry.object];
-        let same = &self.keys[at];
-        match entry.number {
-            PUSH => picked::<PUSH>(whole, same, others),
-            POP => picked::<POP>(whole, same, others),
-            TOP => picked::<TOP>(whole, same, others),
-            SET_INSERT => picked::<SET_INSERT>(whole, same, others),
-            SET_DELETE => picked::<SET_DELETE>(whole, same, others),
-            MEMBER => picked::<MEMBER>(whole, same, others),
-            TABLE_INSERT => picked::<TABLE_INSERT>(whole, same, others),
-            TABLE_DELETE => picked::<TABLE_DELETE>(whole, same, others),
-            LOOKUP => picked::<LOOKUP>(whole, same, others),
-            SIZE => picked::<SIZE>(whole, same, others),
-            _ => picked::<MODIFY>(whole, same, others),
-        }
+        picked::<NUMBER>(&self.objects[object], &self.keys[at], others)
     }
 
     // The owners that bar entry `i`, which `at` and `twin` represent and whose own owner is then put into the rows; its
-    // own transaction does not bar it.
+    // own transaction does not bar it. Its number is written out, so that what goes by it is worked out when this is
+    // compiled.
+    fn enter_as<const NUMBER: u32>(
+        &mut self,
+        book: &[u32],
+        i: usize,
+        at: usize,
+        twin: usize,
+    ) -> Blockers
+        requires { InLog book.now i × Representative book.now i at × Twin book.now i twin
+            × Gathered book.now i self.old × (entry_number book.now i ≡ NUMBER) }
+        ensures { Entered book.now i result self.new }
+    {
+        let entry = Entry::read(book, i);
+        let object = entry.object;
+        let others = self.differing::<NUMBER>(object, at, twin);
+        let found = self.barring::<NUMBER>(object, at, others);
+        let own = bitset::single(entry.transaction);
+        let again = bitset::meet(own, others);
+        join_at(
+            &mut self.objects[object],
+            (NUMBER == PUSH).then_some(ITEMS),
+            again,
+        );
+        join_at(
+            &mut self.keys[at],
+            (NUMBER == MODIFY).then_some(VALUES),
+            again,
+        );
+        join_at(
+            &mut self.objects[object],
+            Some((NUMBER - first(NUMBER)) as usize),
+            own,
+        );
+        join_at(&mut self.keys[at], key_column(NUMBER), own);
+        join_at(&mut self.values, (NUMBER == MODIFY).then_some(twin), own);
+        found.without(entry.transaction)
+    }
+
+    // The same of an entry of any number.
     fn enter(&mut self, book: &[u32], i: usize, at: usize, twin: usize) -> Blockers
         requires { InLog book.now i × Representative book.now i at × Twin book.now i twin
             × Gathered book.now i self.old }
         ensures { Entered book.now i result self.new }
     {
-        let entry = Entry::read(book, i);
-        let object = entry.object;
-        let number = entry.number;
-        let others = self.differing(entry, at, twin);
-        let found = self.barring(entry, at, others);
-        let own = bitset::single(entry.transaction);
-        let again = bitset::meet(own, others);
-        join_at(
-            &mut self.objects[object],
-            (number == PUSH).then_some(ITEMS),
-            again,
-        );
-        join_at(
-            &mut self.keys[at],
-            (number == MODIFY).then_some(VALUES),
-            again,
-        );
-        join_at(
-            &mut self.objects[object],
-            Some((number - first(number)) as usize),
-            own,
-        );
-        join_at(&mut self.keys[at], key_column(number), own);
-        join_at(&mut self.values, (number == MODIFY).then_some(twin), own);
-        found.without(entry.transaction)
+        match Entry::read(book, i).number {
+            PUSH => self.enter_as::<PUSH>(book, i, at, twin),
+            POP => self.enter_as::<POP>(book, i, at, twin),
+            TOP => self.enter_as::<TOP>(book, i, at, twin),
+            SET_INSERT => self.enter_as::<SET_INSERT>(book, i, at, twin),
+            SET_DELETE => self.enter_as::<SET_DELETE>(book, i, at, twin),
+            MEMBER => self.enter_as::<MEMBER>(book, i, at, twin),
+            TABLE_INSERT => self.enter_as::<TABLE_INSERT>(book, i, at, twin),
+            TABLE_DELETE => self.enter_as::<TABLE_DELETE>(book, i, at, twin),
+            LOOKUP => self.enter_as::<LOOKUP>(book, i, at, twin),
+            SIZE => self.enter_as::<SIZE>(book, i, at, twin),
+            _ => self.enter_as::<MODIFY>(book, i, at, twin),
+        }
     }
 }
 

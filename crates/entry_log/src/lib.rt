@@ -26,7 +26,7 @@ fn is_stored(operation: Operation) -> bool
     }
     let keyless = matches!(number, POP | TOP | SIZE);
     let valued = matches!(number, TABLE_INSERT | MODIFY);
-    (operation.key == 0 || !keyless) && (operation.value == 0 || valued)
+    ((operation.key == 0) | !keyless) & ((operation.value == 0) | valued)
 }
 
 // The number of entries is in range, and the words past them are 0.

@@ -102,13 +102,13 @@ abbrev pub written : Option ℕ → ℕ
 written None = 0
 written (Some j) = j + 1
 
--- The latest entry of each chain, and at j the one before entry j in its chain.
+-- The latest entry of each chain, and at j + 1, where entry j is written, the one before it in its chain.
 pub record Chained (valued : Bool) (w : List ℕ) (n : ℕ) {b : ℕ} (chains : Chains b) : Type 0 where
   pub of_latest : length chains.latest ≡ 256
-  pub of_before : length chains.before ≡ 256
+  pub of_before : length chains.before ≡ 257
   pub latest : (s : ℕ) → s < 256 → Latest (InChain valued w s) n (get_or chains.latest s 0)
   pub before : (j : ℕ) → j < n → Counted valued w j → FirstBy valued w j
-      → Latest (InChain valued w (slot_at valued w j)) j (get_or chains.before j 0)
+      → Latest (InChain valued w (slot_at valued w j)) j (get_or chains.before (j + 1) 0)
 
 -- Entry j represents entry i, which is in the chains.
 abbrev pub RepresentedBy : (valued : Bool) → List ℕ → ℕ → ℕ → {b : ℕ} → Chains b → Type 0

@@ -11,7 +11,10 @@ ghost use Rattle.representatives.specs.Representatives.{written};
 
 use layout::ENTRIES;
 
-const CHAINS: usize = 256;
+pub const CHAINS: usize = 256;
+
+// The places of entries, and none.
+pub const LINKS: usize = ENTRIES + 1;
 
 const CHAIN_COUNT: u32 = CHAINS as u32;
 
@@ -28,11 +31,9 @@ fn alike<const VALUED: bool>(book: &[u32], i: usize, j: usize) -> bool
     }
     let logged = layout::entry_operation(book, j);
     let requested = layout::entry_operation(book, i);
-    if VALUED {
-        logged == requested
-    } else {
-        logged.key == requested.key
-    }
+    // Its number last: where values count, all in a chain have one.
+    logged.key == requested.key
+        && (!VALUED || (logged.value == requested.value && logged.number == requested.number))
 }
 
 // The chain that an entry is put in.
@@ -50,15 +51,16 @@ fn slot<const VALUED: bool>(book: &[u32], i: usize) -> usize
 pub fn entry(place: u16) -> Option<usize>
     ensures { written result ≡ place }
 {
-    (place as usize).checked_sub(1)
+    place.checked_sub(1).map(|index| index as usize)
 }
 
-// The representatives among the entries passed, in chains: `latest` has the last entry of each chain, `before` at `j`
-// the one before entry `j`. What holds of them is about a book, which they do not keep, so that contracts state it.
+// The representatives among the entries passed, in chains: `latest` has the last entry of each chain, `before` at the
+// place of an entry the one before it. What holds of them is about a book, which they do not keep, so that contracts
+// state it.
 #[derive(Drop)]
 pub struct Chains<const VALUED: bool> {
     latest: [u16; CHAINS],
-    before: [u16; ENTRIES],
+    before: [u16; LINKS],
 }
 
 impl<const VALUED: bool> Chains<VALUED> {
@@ -67,7 +69,7 @@ impl<const VALUED: bool> Chains<VALUED> {
     {
         Chains {
             latest: [0; CHAINS],
-            before: [0; ENTRIES],
+            before: [0; LINKS],
         }
     }
 
@@ -78,13 +80,14 @@ impl<const VALUED: bool> Chains<VALUED> {
             (λ j. (j < i) × RepresentativeBy VALUED book.now i j) }
     {
         let mut at = self.latest[slot::<VALUED>(book, i)];
-        while let Some(j) = entry(at) {
-            if alike::<VALUED>(book, i, j) {
-                return Some(j);
+        // By place, and not by the entry there, whose index would be worked out at each step.
+        while at != 0 {
+            if alike::<VALUED>(book, i, at as usize - 1) {
+                break;
             }
-            at = self.before[j];
+            at = self.before[at as usize];
         }
-        None
+        entry(at)
     }
 
     // Entry `i`, the first like it, becomes the latest of its chain.
@@ -94,7 +97,7 @@ impl<const VALUED: bool> Chains<VALUED> {
         ensures { Chained VALUED book.now (i + 1) self.new }
     {
         let at = slot::<VALUED>(book, i);
-        self.before[i] = self.latest[at];
+        self.before[i + 1] = self.latest[at];
         self.latest[at] = (i + 1) as u16;
     }
 

@@ -1,5 +1,6 @@
 -- Chains of entries: the latest of each, and the way back along one.
 use Rattle.std.specs.Prelude.{ℕ, ◌+◌, ◌<◌, ◌≡◌, refl, Bool, true, false, List, length, get_or, set, replicate}
+use Rattle.std.specs.Prelude.{Option, Some, None, MatchOption}
 use Rattle.std.proofs.Common.{sym, ap, subst, ◌∙◌, arith, length-set, get_or-set_same}
 use Rattle.std.proofs.Common.{get_or-set_other}
 use Rattle.std.proofs.lemmas.List.{get_or-replicate}
@@ -7,7 +8,7 @@ use Rattle.operations.proofs.Laws.Cases.{same}
 use Rattle.operations.proofs.Laws.Rows.{order}
 use Rattle.representatives.specs.declared.Chains.{Chains}
 use Rattle.representatives.specs.Representatives.{AlikeBy, FirstBy, RepresentativeBy, DownTo, Latest, slot_of}
-use Rattle.representatives.specs.Representatives.{slot_at, Counted, InChain, Chained}
+use Rattle.representatives.specs.Representatives.{slot_at, Counted, InChain, Chained, written}
 use Rattle.representatives.specs.Laws.Firsts.{first_of}
 
 -- ---- Entries alike are looked at alike, in one chain
@@ -45,7 +46,7 @@ module _ (valued : Bool) (w : List ℕ) where
   one_slot : (i j : ℕ) → Counted valued w i → RepresentativeBy valued w i j → InChain valued w (slot_at valued w i) j
   one_slot i j own r = (counted_alike valued w i j r.alike own, r.first, slot_alike valued w i j r.alike)
 
-  pub chained_none : {b : ℕ} (chains : Chains b) → chains.latest ≡ replicate 256 0 → length chains.before ≡ 256
+  pub chained_none : {b : ℕ} (chains : Chains b) → chains.latest ≡ replicate 256 0 → length chains.before ≡ 257
       → Chained valued w 0 chains
   chained_none chains e f =
       record {
@@ -63,12 +64,12 @@ module _ (valued : Bool) (w : List ℕ) where
     pub chained_more : (s : ℕ) → s ≡ slot_at valued w i → s < 256 → i < 256 → Counted valued w i → FirstBy valued w i
         → Chained valued w (i + 1) {b = b} (record {
           latest = set chains.latest s (i + 1);
-          before = set chains.before i (get_or chains.latest s 0);
+          before = set chains.before (i + 1) (get_or chains.latest s 0);
         })
     chained_more s own l n counted first =
         record {
           of_latest = length-set chains.latest s (i + 1) ∙ c.of_latest;
-          of_before = length-set chains.before i (get_or chains.latest s 0) ∙ c.of_before;
+          of_before = length-set chains.before (i + 1) (get_or chains.latest s 0) ∙ c.of_before;
           latest = λ t m.
               same t s
               (λ (e : t ≡ s). rw (e, get_or-set_same chains.latest s (i + 1) 0 (omega (arith, c.of_latest)))
@@ -80,10 +81,10 @@ module _ (valued : Bool) (w : List ℕ) where
           before = λ j m q f.
               same j i
               (λ (e : j ≡ i).
-              rw (e, get_or-set_same chains.before i (get_or chains.latest s 0) 0 (omega (arith, c.of_before)), ← own)
+              rw (e, get_or-set_same chains.before (i + 1) (get_or chains.latest s 0) 0 (omega (arith, c.of_before)), ← own)
               (c.latest s l))
               (λ (e : j ≡ i → ⊥).
-              rw (get_or-set_other chains.before i j (get_or chains.latest s 0) 0 e)
+              rw (get_or-set_other chains.before (i + 1) (j + 1) (get_or chains.latest s 0) 0 (λ (m : j + 1 ≡ i + 1). e (omega arith)))
               (c.before j (omega arith) q f));
         }
 
@@ -111,14 +112,14 @@ module _ (valued : Bool) (w : List ℕ) where
         }
 
     module _ (p : ℕ) (r : Way i (p + 1)) where
-      step : Latest (InChain valued w (slot_at valued w i)) p (get_or chains.before p 0)
+      step : Latest (InChain valued w (slot_at valued w i)) p (get_or chains.before (p + 1) 0)
       step =
           let last = r.such p refl in
-          subst (λ (s : ℕ). Latest (InChain valued w s) p (get_or chains.before p 0)) last.2
+          subst (λ (s : ℕ). Latest (InChain valued w s) p (get_or chains.before (p + 1) 0)) last.2
           (c.before p (omega (arith, r.within)) last.0 last.1)
 
       -- The entry before in the chain.
-      pub way_back : Counted valued w i → (AlikeBy valued w i p → ⊥) → Way i (get_or chains.before p 0)
+      pub way_back : Counted valued w i → (AlikeBy valued w i p → ⊥) → Way i (get_or chains.before (p + 1) 0)
       way_back counted other =
           record {
             within = omega (arith, step.within, r.within);
@@ -129,5 +130,11 @@ module _ (valued : Bool) (w : List ℕ) where
                 (λ (e : p < j). r.later j (omega arith) m a);
           }
 
-  pub way_end : (i : ℕ) → Way i 0 → FirstBy valued w i
-  way_end i r = first_of valued w i (λ j l. r.later j (omega arith) l)
+  -- At its end, or at an entry alike: the entry written there, if one is, represents entry i.
+  pub way_end : (i p : ℕ) (told : Option ℕ) → Way i p → written told ≡ p
+      → ((j : ℕ) → p ≡ j + 1 → AlikeBy valued w i j)
+      → MatchOption told (FirstBy valued w i) (λ j. (j < i) × RepresentativeBy valued w i j)
+  way_end i p None r e like = first_of valued w i (λ j l. r.later j (omega (arith, e)) l)
+  way_end i p (Some j) r e like =
+      let below : j < i = omega (arith, e, r.within) in
+      (below, record { within = omega (arith, below); alike = like j (sym e); first = (r.such j (sym e)).1 })

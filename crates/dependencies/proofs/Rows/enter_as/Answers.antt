@@ -1,36 +1,50 @@
--- `dependencies::Rows::enter`: the owners that the rows and the rules tell, and the rows with the entry's own.
-use Rattle.std.proofs.Common.{◌-◌, ◌<◌, ap, arith}
+-- `dependencies::Rows::enter_as`: the owners that the rows and the rules tell, and the rows with the entry's own.
+use Rattle.std.proofs.Common.{◌-◌, ◌<◌, ap, sym, arith}
+use Rattle.operations.specs.PairRules.{Numbered}
 use Rattle.pairs.specs.Pairs.{column_of}
+use Rattle.dependencies.specs.Dependencies.{EntryRead}
 use Rattle.dependencies.specs.Laws.Sets.{added_equal, added_one, with_owner, in_column}
 use Rattle.dependencies.specs.Laws.Numbers.{ranged, column_within}
 use Rattle.dependencies.specs.Laws.Others.{others}
 use Rattle.dependencies.specs.Laws.Barring.{barred}
 use Rattle.dependencies.specs.Laws.Entering.{gathered_more}
-use Rattle.dependencies.proofs.Rows.enter.Goals as goal
+use Rattle.dependencies.proofs.Rows.enter_as.Goals as goal
 
-pub overflow_sub-number : goal.overflow_sub-number
-overflow_sub-number c =
-    omega (arith, c.first.ensures, (ranged c.read-entry.result.number c.read-entry.ensures.numbered).least)
+pub overflow_sub-first : goal.overflow_sub-first
+overflow_sub-first g c =
+    let numbered : Numbered g.row.NUMBER = omega (arith, c.read-entry.ensures.numbered, c.read-entry.ensures.of_number) in
+    omega (arith, c.first.ensures, (ranged g.row.NUMBER numbered).least)
 
 pub join_at-requires-3 : goal.join_at-requires-3
-join_at-requires-3 c =
-    let within = column_within c.read-entry.result.number c.read-entry.ensures.numbered _ c.first.ensures in
+join_at-requires-3 g c =
+    let numbered : Numbered g.row.NUMBER = omega (arith, c.read-entry.ensures.numbered, c.read-entry.ensures.of_number) in
+    let within = column_within g.row.NUMBER numbered _ c.first.ensures in
     (omega arith, within)
 
 pub returns : goal.returns
-returns c =
+returns g c =
     let w = c.args.book.now in
     let rows = c.args.self.now in
-    let (log, by, by_value, gathered) = c.requires in
-    let number = c.read-entry.result.number in
+    let (log, by, by_value, gathered, named) = c.requires in
+    let number = g.row.NUMBER in
     let t = c.read-entry.result.transaction in
-    let read = c.read-entry.ensures in
+    let told = c.read-entry.ensures in
+    let numbered : Numbered number = omega (arith, told.numbered, told.of_number) in
+    let read : EntryRead w c.args.i (record { transaction = t; object = c.read-entry.result.object; number = number }) =
+    record {
+      of_transaction = told.of_transaction;
+      of_object = told.of_object;
+      of_number = sym named;
+      live = told.live;
+      within = told.within;
+      numbered = numbered;
+    } in
     let at_below : c.args.at < 256 = omega (arith, log.0.entries, log.1, by.within) in
     let twin_below : c.args.twin < 256 = omega (arith, log.0.entries, log.1, by_value.within) in
     let other = others w log.0 c.args.i log.1 rows gathered c.args.at at_below by _
     c.args.twin _ read twin_below by_value c.differing-others.ensures in
     let column = in_column 6 _ _ (ap (λ f. number - f) c.first.ensures)
-    (column_within number read.numbered _ c.first.ensures) in (
+    (column_within number numbered _ c.first.ensures) in (
       barred w log.0 c.args.i log.1 rows gathered _ c.args.at _ _ _ read by other c.barring-found.ensures
           c.without.ensures,
       gathered_more w c.args.i rows gathered _ c.args.at c.args.twin read at_below by
