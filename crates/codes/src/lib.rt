@@ -87,7 +87,7 @@ impl From<Reply> for Numbers {
             },
             Reply::Counted(rows) => Numbers { rows, ..ZERO },
             Reply::Refused(reason) => Numbers {
-                refusal: reason.number(),
+                refusal: reason,
                 ..ZERO
             },
         }

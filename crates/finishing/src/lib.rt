@@ -39,7 +39,7 @@ pub fn finish(book: &mut [u32], transaction: u32, list: &mut [u8]) -> Reply
     let mut edges = [0u64; TRANSACTIONS];
     let finished = match admitted(book, transaction, list.len(), &mut edges) {
         Ok(finished) => finished,
-        Err(reason) => return Reply::Refused(reason),
+        Err(reason) => return Reply::Refused(reason.number()),
     };
     let predecessors = graph::predecessors(&edges, finished, transaction);
     let successors = graph::successors(&edges, finished, transaction);
@@ -63,7 +63,7 @@ pub fn cancel(book: &mut [u32], transaction: u32, list: &mut [u8]) -> Reply
     let mut edges = [0u64; TRANSACTIONS];
     let finished = match admitted(book, transaction, list.len(), &mut edges) {
         Ok(finished) => finished,
-        Err(reason) => return Reply::Refused(reason),
+        Err(reason) => return Reply::Refused(reason.number()),
     };
     let committed = ending::abort(book, transaction, &mut edges, finished, list);
     Reply::Cancelled(committed as u32)

@@ -4,7 +4,6 @@ use Rattle.operations.specs.Operations.{Answer, answering}
 use Rattle.operations.specs.Stored.{answer_of}
 use Rattle.protocol.specs.Replies as model
 use Rattle.protocol.specs.Calls.{batch_limit}
-use Rattle.protocol.specs.Refusals.{refusal_number}
 use Rattle.protocol.specs.declared.Batched.{Batched}
 use Rattle.protocol.specs.declared.Reply.{Reply}
 use Rattle.protocol.specs.declared.Reply.TheVariants.{Ok, Answered, Answers, Wait, Finished, Committed, Circle}
@@ -21,7 +20,7 @@ reply_with answers (Committed count) = model.committed count
 reply_with answers (Circle count) = model.circle count
 reply_with answers (Cancelled count) = model.cancelled count
 reply_with answers (Counted rows) = model.counted rows
-reply_with answers (Refused reason) = model.refused (refusal_number reason)
+reply_with answers (Refused reason) = model.refused reason
 
 abbrev pub reply_of : Reply → model.Reply
 reply_of = reply_with []

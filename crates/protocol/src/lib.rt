@@ -43,8 +43,15 @@ impl Refusal {
 // The most operations of a batch.
 pub const BATCH: usize = 16;
 
-// The words of an operation that is lent: its object, its number, its key or item, and its value.
-pub const OPERATION_WORDS: usize = 4;
+// Where they stand in an operation that is lent, behind its object: its number, its key or item, and its value.
+pub const LENT_NUMBER: usize = 1;
+
+pub const LENT_KEY: usize = LENT_NUMBER + 1;
+
+pub const LENT_VALUE: usize = LENT_KEY + 1;
+
+// The words of an operation that is lent.
+pub const OPERATION_WORDS: usize = LENT_VALUE + 1;
 
 // The operations that are lent, words of each; a part of one at the end is none of them.
 pub fn lent(operations: &[u32]) -> &[[u32; OPERATION_WORDS]]
@@ -70,7 +77,8 @@ pub enum Reply {
     Cancelled(u32),
     // how many rows
     Counted(u32),
-    Refused(Refusal),
+    // why, by its number: what is put or told of a reply is promised for any
+    Refused(u32),
 }
 
 // What a batch replies: its answers in order, and 0 0 in the places that it doesn't use.

@@ -110,7 +110,7 @@ fn put_numbers<const N: usize>(out: &mut ArrayVec<u8, N>, reply: Reply, list: &[
             out, list, count,
         ),
         Reply::Counted(rows) => put_field(out, rows),
-        Reply::Refused(reason) => put_field(out, reason.number()),
+        Reply::Refused(reason) => put_field(out, reason),
     }
 }
 

@@ -29,7 +29,7 @@ pub fn set_up(book: &mut [u32], kinds: &[u8]) -> Reply
         ≡ calls.set_up base book.old kinds.now }
 {
     if let Err(reason) = refusals::set_up(book, kinds) {
-        return Reply::Refused(reason);
+        return Reply::Refused(reason.number());
     }
     write_empty(book, kinds);
     Reply::Ok
@@ -40,7 +40,7 @@ pub fn begin(book: &mut [u32], transaction: u32) -> Reply
         ≡ calls.begin base whether_sound book.old transaction }
 {
     if let Err(reason) = refusals::begin(book, transaction) {
-        return Reply::Refused(reason);
+        return Reply::Refused(reason.number());
     }
     statuses::set_status(book, transaction, statuses::ACTIVE);
     Reply::Ok
@@ -58,7 +58,7 @@ pub fn operate(
         ≡ calls.operate base whether_sound book.old transaction object operation key value }
 {
     if let Err(reason) = refusals::operate(book, transaction, object, operation) {
-        return Reply::Refused(reason);
+        return Reply::Refused(reason.number());
     }
     let requested = waits::request(operation, key, value);
     let owners = waits::owners(book, transaction, object, requested);
@@ -87,7 +87,7 @@ pub fn batch(book: &mut [u32], transaction: u32, operations: &[u32]) -> Batched
     ensures filled { Filled result }
 {
     if let Err(reason) = refusals::batch(book, transaction, operations) {
-        return unanswered(Reply::Refused(reason));
+        return unanswered(Reply::Refused(reason.number()));
     }
     let owners = batches::owners(book, transaction, operations);
     if owners != 0 {
@@ -121,7 +121,7 @@ pub fn contents_count(book: &[u32], object: u32) -> Reply
     ensures { reply_of result ≡ (calls.contents base whether_sound book.now object).outcome.reply }
 {
     if let Err(reason) = refusals::contents(book, object) {
-        return Reply::Refused(reason);
+        return Reply::Refused(reason.number());
     }
     Reply::Counted(layout::row_count(book, object as usize) as u32)
 }

@@ -6,7 +6,8 @@ use Rattle.finishing.proofs.cancel.Goals as goal
 pub returns-in-Err : goal.returns-in-Err
 returns-in-Err c =
     let a = c.args in
-    cancel_refused a.book.now a.transaction a.list.now c.in-Err.reason (c.in-Err.ensures.reason a.list.now refl)
+    rw c.number.ensures
+    (cancel_refused a.book.now a.transaction a.list.now c.in-Err.reason (c.in-Err.ensures.reason a.list.now refl))
 
 pub abort-committed-requires : goal.abort-committed-requires
 abort-committed-requires c =

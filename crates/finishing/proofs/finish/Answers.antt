@@ -9,7 +9,8 @@ use Rattle.finishing.proofs.finish.Goals as goal
 pub returns-in-Err : goal.returns-in-Err
 returns-in-Err c =
     let a = c.args in
-    finish_refused a.book.now a.transaction a.list.now c.in-Err.reason (c.in-Err.ensures.reason a.list.now refl)
+    rw c.number.ensures
+    (finish_refused a.book.now a.transaction a.list.now c.in-Err.reason (c.in-Err.ensures.reason a.list.now refl))
 
 -- ---- Predecessors and successors meet
 

@@ -10,7 +10,7 @@ pub returns-in-Err-clause-served : goal.returns-in-Err-clause-served
 returns-in-Err-clause-served c =
     let a = c.args in
     (leaves_refused a.book.now a.transaction a.operations.now c.in-Err.reason c.in-Err.ensures
-    c.unanswered.result c.unanswered.ensures).0
+    c.unanswered.result (rw c.number.ensures at c.unanswered.ensures)).0
 
 pub owners-owners-requires : goal.owners-owners-requires
 owners-owners-requires c =

@@ -7,7 +7,8 @@ use Rattle.scheduler.specs.Laws.Serving.{begin_refused, begin_done}
 use Rattle.scheduler.proofs.begin.Goals as goal
 
 pub returns-in-Err : goal.returns-in-Err
-returns-in-Err c = begin_refused c.args.book.now c.args.transaction c.in-Err.reason c.in-Err.ensures
+returns-in-Err c =
+    rw c.number.ensures (begin_refused c.args.book.now c.args.transaction c.in-Err.reason c.in-Err.ensures)
 
 pub set_status-requires : goal.set_status-requires
 set_status-requires c =

@@ -11,8 +11,9 @@ use Rattle.scheduler.proofs.contents_count.Goals as goal
 
 pub returns-in-Err : goal.returns-in-Err
 returns-in-Err c =
-    ap (λ (s : Served). s.outcome.reply)
-    (contents_refused c.args.book.now c.args.object c.in-Err.reason c.in-Err.ensures)
+    rw c.number.ensures
+    (ap (λ (s : Served). s.outcome.reply)
+    (contents_refused c.args.book.now c.args.object c.in-Err.reason c.in-Err.ensures))
 
 pub row_count-requires : goal.row_count-requires
 row_count-requires c =

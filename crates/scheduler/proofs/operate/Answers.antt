@@ -12,8 +12,9 @@ use Rattle.scheduler.proofs.operate.Goals as goal
 pub returns-in-Err : goal.returns-in-Err
 returns-in-Err c =
     let a = c.args in
-    operate_refused a.book.now a.transaction a.object a.operation a.key a.value c.in-Err.reason
-    (c.in-Err.ensures a.key a.value)
+    rw c.number.ensures
+    (operate_refused a.book.now a.transaction a.object a.operation a.key a.value c.in-Err.reason
+    (c.in-Err.ensures a.key a.value))
 
 pub request-requested-requires : goal.request-requested-requires
 request-requested-requires c =

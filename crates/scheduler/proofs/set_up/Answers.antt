@@ -7,7 +7,8 @@ use Rattle.scheduler.specs.Laws.Empty.{known_below}
 use Rattle.scheduler.proofs.set_up.Goals as goal
 
 pub returns-in-Err : goal.returns-in-Err
-returns-in-Err c = set_up_refused c.args.book.now c.args.kinds.now c.in-Err.reason c.in-Err.ensures
+returns-in-Err c =
+    rw c.number.ensures (set_up_refused c.args.book.now c.args.kinds.now c.in-Err.reason c.in-Err.ensures)
 
 pub write_empty-requires : goal.write_empty-requires
 write_empty-requires c =

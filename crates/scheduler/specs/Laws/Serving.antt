@@ -111,7 +111,7 @@ module _ (w : List ℕ) (t : ℕ) (operations : List ℕ) where
       (served after (outcome (batched_of b) [] []) ≡ calls.batch base whether_sound w t operations) × Filled b
 
   pub leaves_refused : (reason : Refusal) → refusal_number reason ≡ calls.batch_reason base whether_sound w t operations
-      → (b : Batched) → b ≡ unanswered (Refused reason) → Leaves w b
+      → (b : Batched) → b ≡ unanswered (Refused (refusal_number reason)) → Leaves w b
   leaves_refused reason found b made = subst (Leaves w) (sym made) (batch_refused reason found, (refl, refl))
 
   module _ (e : 0 ≡ calls.batch_reason base whether_sound w t operations) (set : ℕ) (scanned : set ≡ awaited) where
