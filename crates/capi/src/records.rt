@@ -7,6 +7,7 @@ ghost use Rattle.journal.specs.Coded.{record_of, cause_of};
 ghost use Rattle.journal_reader.specs.Said.{count_of};
 ghost use Rattle.capi.specs.Records.{handed, cause_number, SaysNext, SaysCount};
 
+use arrayvec::ArrayVec;
 use journal::{BAD_RECORD, Cause, MOST, Record};
 use protocol::ACCEPTED;
 
@@ -79,14 +80,15 @@ fn number_of(cause: Cause) -> u32
 pub extern "C" fn lending_desk_write_record(content: Record) -> Written
     ensures { result ≡ handed (written (record_of content)) }
 {
+    let mut record = ArrayVec::new();
     let mut bytes = [0; MOST];
-    let Some(record) = journal_writer::write(&content) else {
+    if !journal_writer::write_into(&mut record, &content) {
         return Written {
             refusal: BAD_RECORD,
             count: 0,
             bytes,
         };
-    };
+    }
     let count = record.len();
     bytes[..count].copy_from_slice(record.as_slice());
     Written {
@@ -101,27 +103,31 @@ pub extern "C" fn lending_desk_next_record(bytes: &[u8], at: usize) -> NextRecor
     ensures { SaysNext bytes.now result (step (drop at bytes.now))
         × (result.place ≤ length bytes.now) }
 {
-    match journal_reader::next(bytes, at) {
-        Ok(Some((content, place))) => NextRecord {
+    let mut content = Record::EMPTY;
+    if bytes.len() <= at {
+        return NextRecord {
+            refusal: ACCEPTED,
+            found: 0,
+            cause: NO_CAUSE,
+            place: 0,
+            content,
+        };
+    }
+    match journal_reader::read_record(bytes, at, &mut content) {
+        Ok(place) => NextRecord {
             refusal: ACCEPTED,
             found: 1,
             cause: NO_CAUSE,
             place,
             content,
         },
-        Ok(None) => NextRecord {
-            refusal: ACCEPTED,
-            found: 0,
-            cause: NO_CAUSE,
-            place: 0,
-            content: Record::EMPTY,
-        },
+        // With what was read until then.
         Err(damage) => NextRecord {
             refusal: BAD_RECORD,
             found: 0,
             cause: number_of(damage.cause),
             place: damage.place,
-            content: Record::EMPTY,
+            content,
         },
     }
 }

@@ -1,9 +1,7 @@
 -- A line, served.
-use Rattle.std.specs.Prelude as code
-use Rattle.std.specs.Prelude.{ℕ, ◌≡◌, refl, true, List, [], ◌∷◌, ◌++◌, Some, None}
+use Rattle.std.specs.Prelude.{ℕ, ◌≡◌, refl, true, List, [], ◌∷◌, ◌++◌, Some}
 use Rattle.std.proofs.Common.{ap, ◌∙◌, subst}
-use Rattle.std.proofs.Math.Option.{none, some}
-use Rattle.arrayvec.specs.ArrayVec.{ArrayVec}
+use Rattle.std.proofs.Math.Option.{Option, none, some}
 use Rattle.protocol.specs.Replies as protocol
 use Rattle.protocol.specs.Replies.{served}
 use Rattle.protocol.specs.Call.{Call}
@@ -16,6 +14,7 @@ use Rattle.serving.specs.declared.Told.{Told}
 use Rattle.recording.specs.Recording.{given_to}
 use Rattle.recording.specs.Laws.Given.{desk_gives}
 use Rattle.dispatch.specs.Served.{serving, line_served}
+use Rattle.dispatch.specs.declared.Output.{Output}
 use Rattle.dispatch.specs.Replying.{Kept, Answered}
 
 -- The desk's replies are those that the call gives.
@@ -24,27 +23,29 @@ pub served_given : {call : Call} {w book : List ℕ} {told : Told} → Served ca
 served_given {call} {w} so =
     ap (λ (s : protocol.Served). given_to call s.outcome.reply) so.done ∙ desk_gives call w
 
-module _ (w line : List ℕ) (text : ArrayVec ℕ) where
-  pub unread_line : none ≡ call_in line → text.items ≡ ascii "unread\n"
-      → Answered (line_served w line) w (record { reply = text; «record» = None })
+module _ {output : Output} where
+  pub unread_line : (w line : List ℕ) → none ≡ call_in line → output.reply.items ≡ ascii "unread\n"
+      → output.record.items ≡ [] → Answered (line_served w line) w output
   unfolding line_served
-  unread_line asks says =
-      let unread : Answered (serving none w) w (record { reply = text; «record» = None }) =
-      record { left = refl; text = says; kept = record { bytes = refl; fit = tt } } in
+  unread_line w line asks says nothing =
+      let unread : Answered (serving none w) w output =
+      record { left = refl; text = says; kept = record { bytes = nothing; fit = tt } } in
       rw (← asks) unread
 
-  pub answered_line : {call : Call} {book : List ℕ} (told : Told) (kept : code.Option (ArrayVec ℕ))
-      → some call ≡ call_in line → Served call w book told
-      → text.items ≡ printed (outcome_of told).reply (outcome_of told).list ++ (10 ∷ [])
-      → Kept (noted (record_of call (outcome_of told)) []) kept
-      → Answered (line_served w line) book (record { reply = text; «record» = kept })
-  unfolding line_served
-  answered_line {call} {book} told kept asks so says recorded =
-      let answered : Answered (serving (some call) w) book (record { reply = text; «record» = kept }) =
+  pub answered_call : {call : Call} {w book : List ℕ} {told : Told} → Served call w book told
+      → output.reply.items ≡ printed (outcome_of told).reply (outcome_of told).list ++ (10 ∷ [])
+      → Kept (noted (record_of call (outcome_of told)) []) (Some output.record)
+      → Answered (serving (some call) w) book output
+  answered_call {call} {book = book} so says recorded =
       subst (λ (s : protocol.Served). Answered (record {
         book = s.book;
         text = printed s.outcome.reply s.outcome.list;
         records = noted (record_of call s.outcome) [];
-      }) book (record { reply = text; «record» = kept })) so.done
-      (record { left = refl; text = says; kept = recorded }) in
-      rw (← asks) answered
+      }) book output) so.done
+      (record { left = refl; text = says; kept = recorded })
+
+  pub answered_line : (w line : List ℕ) {call : Call} {book : List ℕ} → some call ≡ call_in line
+      → Answered (serving (some call) w) book output → Answered (line_served w line) book output
+  unfolding line_served
+  answered_line w line {book = book} asks answered =
+      subst (λ (asked : Option Call). Answered (serving asked w) book output) asks answered

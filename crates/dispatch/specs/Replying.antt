@@ -29,8 +29,8 @@ pub record Kept (records : List Record) (kept : code.Option (ArrayVec ℕ)) : Ty
   pub bytes : bytes_kept kept ≡ file records
   pub fit : All (λ r. fits r ≡ true) records
 
--- A line was served: its reply with a line feed, and its record.
+-- A line was served: its reply with a line feed, and its record, no bytes where it has none.
 pub record Answered (a : LineServed) (book : List ℕ) (output : Output) : Type 0 where
   pub left : book ≡ a.book
   pub text : output.reply.items ≡ a.text ++ (char "\n" ∷ [])
-  pub kept : Kept a.records output.record
+  pub kept : Kept a.records (Some output.record)

@@ -9,7 +9,8 @@ use journal::{Cause, Damage, Record};
 use journal_numbers::{read_count, read_numbers};
 use protocol::{BATCH, OPERATION_WORDS};
 
-// The arguments behind a letter, which stands at the place; and the place behind them.
+// The arguments behind a letter, which stands at the place; and the place behind them. How many operations there are
+// is put only where all were read.
 pub fn read_arguments(bytes: &[u8], at: usize, content: &mut Record) -> Result<usize, Damage>
     requires { (at < length bytes.now) × (content.old.letter ≡ get_or bytes.now at 0) }
     ensures letter { content.new.letter ≡ content.old.letter }
@@ -23,16 +24,17 @@ pub fn read_arguments(bytes: &[u8], at: usize, content: &mut Record) -> Result<u
     let Some(count) = letters::arguments_of(content.letter) else {
         return Err(Cause::Letter.at(at));
     };
-    content.operations = 1;
     let behind = read_numbers(bytes, at + 1, &mut content.arguments[..count])?;
     if content.letter != letters::BATCH {
+        content.operations = 1;
         return Ok(behind);
     }
     let (operations, behind) = read_count(bytes, behind, BATCH, Cause::Batch)?;
-    content.operations = operations;
-    read_numbers(
+    let end = read_numbers(
         bytes,
         behind,
         &mut content.arguments[1..1 + OPERATION_WORDS * operations],
-    )
+    )?;
+    content.operations = operations;
+    Ok(end)
 }

@@ -12,8 +12,9 @@ use journal::{Damage, Record};
 mod arguments;
 mod reply;
 
-// The record at a place, put into this one; the place behind it.
-fn read_record(bytes: &[u8], at: usize, content: &mut Record) -> Result<usize, Damage>
+// The record at a place, put into this one; and the place behind it. Where it is damaged, this one has what was read
+// until then.
+pub fn read_record(bytes: &[u8], at: usize, content: &mut Record) -> Result<usize, Damage>
     requires { at < length bytes.now }
     ensures onward { IfOk result (λ end. at < end) }
     ensures reads { Reads bytes.now at (λ end. record_of content.new) itself result

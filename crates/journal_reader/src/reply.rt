@@ -46,7 +46,8 @@ fn read_owners(bytes: &[u8], at: usize, count: usize) -> Result<(u64, usize), Da
     Ok((owners, place))
 }
 
-// What stands behind a reply code. Answers are uncounted.
+// What stands behind a reply code. Answers are uncounted. Where all was read, `owners` and `listed` both are put: the
+// set of owners, or how many numbers there are, it is one or the other, by the reply code.
 fn read_behind(bytes: &[u8], at: usize, content: &mut Record) -> Result<usize, Damage>
     requires within { at ≤ length bytes.now }
     requires replies { HasReply content.old.letter ≡ true }
@@ -57,16 +58,23 @@ fn read_behind(bytes: &[u8], at: usize, content: &mut Record) -> Result<usize, D
     ensures kept { SameCall content.old content.new }
 {
     if content.code == codes::ANSWERED {
-        return read_numbers(bytes, at, &mut content.numbers[..2 * content.operations]);
+        let count = 2 * content.operations;
+        let end = read_numbers(bytes, at, &mut content.numbers[..count])?;
+        content.owners = count as u64;
+        content.listed = count;
+        return Ok(end);
     }
     let (count, behind) = read_count(bytes, at, LISTED, Cause::List)?;
     if content.code == codes::WAIT {
         let (owners, end) = read_owners(bytes, behind, count)?;
         content.owners = owners;
+        content.listed = owners as usize;
         return Ok(end);
     }
+    let end = read_numbers(bytes, behind, &mut content.numbers[..count])?;
+    content.owners = count as u64;
     content.listed = count;
-    read_numbers(bytes, behind, &mut content.numbers[..count])
+    Ok(end)
 }
 
 // The reply, where there is one, and the place behind it.

@@ -1,7 +1,7 @@
 // A record written: its bytes, or none where the reader would turn it away.
 #![tactic(auto)]
 
-ghost use Rattle.std.specs.Prelude.{◌≡◌, true, ◌+◌, ◌≤◌, ◌++◌, length};
+ghost use Rattle.std.specs.Prelude.{◌≡◌, true, false, [], ◌+◌, ◌≤◌, ◌++◌, length};
 ghost use Rattle.arrayvec.specs.ArrayVec.{array_vec_len};
 ghost use Rattle.bitset.specs.Bitset.{members};
 ghost use Rattle.journal.specs.Groups.{groups, grouped, narrow};
@@ -9,7 +9,7 @@ ghost use Rattle.journal.specs.Records.{reply_numbers, arguments_of, argument_nu
 ghost use Rattle.journal.specs.Records.{reply_fits as ReplyFits};
 ghost use Rattle.journal.specs.Records.{shaped, fits, written};
 ghost use Rattle.journal.specs.Coded.{front, argument_count, reply_of, record_of};
-ghost use Rattle.journal_writer.specs.Written.{bytes_said};
+ghost use Rattle.journal_writer.specs.Written.{bytes_said, bytes_put};
 
 use arrayvec::ArrayVec;
 use journal::{LISTED, MOST, Record};
@@ -137,17 +137,31 @@ fn put_reply(out: &mut ArrayVec<u8, MOST>, content: &Record)
     put_numbers(out, &content.numbers[..content.listed]);
 }
 
+// Puts the bytes of a record into an array, in place of what it held; whether the reader takes such a record. Where it
+// doesn't, the array is left empty. The last clause: numbers of the code have 32 bits.
+pub fn write_into(out: &mut ArrayVec<u8, MOST>, content: &Record) -> bool
+    ensures bytes { bytes_put result out.new ≡ written (record_of content.now) }
+    ensures none { result ≡ false → out.new.items ≡ [] }
+    ensures fits { shaped (record_of content.now) ≡ true → fits (record_of content.now) ≡ true }
+{
+    out.clear();
+    if !is_shaped(content) {
+        return false;
+    }
+    out.push(content.letter);
+    put_arguments(out, content);
+    put_reply(out, content);
+    true
+}
+
 // The bytes of a record. The second clause: numbers of the code have 32 bits.
 pub fn write(content: &Record) -> Option<ArrayVec<u8, MOST>>
     ensures bytes { bytes_said result ≡ written (record_of content.now) }
     ensures fits { shaped (record_of content.now) ≡ true → fits (record_of content.now) ≡ true }
 {
-    if !is_shaped(content) {
+    let mut out = ArrayVec::new();
+    if !write_into(&mut out, content) {
         return None;
     }
-    let mut out = ArrayVec::new();
-    out.push(content.letter);
-    put_arguments(&mut out, content);
-    put_reply(&mut out, content);
     Some(out)
 }

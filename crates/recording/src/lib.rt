@@ -1,7 +1,7 @@
 // The record of a call that was made, from the call and what was told of it.
 #![tactic(auto)]
 
-ghost use Rattle.std.specs.Prelude.{◌≡◌, true, [], ◌∷◌, map, ◌*◌, ◌≤◌, length};
+ghost use Rattle.std.specs.Prelude.{◌≡◌, true, [], ◌∷◌, map, ◌*◌, ◌≤◌, length, Some};
 ghost use Rattle.operations.specs.Stored.{answer_of};
 ghost use Rattle.store.specs.Store.{list_length};
 ghost use Rattle.protocol.specs.Calls.{operation_words, batch_limit};
@@ -114,8 +114,8 @@ fn called(call: &Call) -> Record
         ),
         Call::Batch(transaction, operations) => named(
             b'G',
-            operations.len() / OPERATION_WORDS,
-            batch_arguments(*transaction, operations),
+            operations.as_slice().len() / OPERATION_WORDS,
+            batch_arguments(*transaction, operations.as_slice()),
         ),
         Call::Finish(transaction) => named(b'F', 0, array_of(&[*transaction])),
         Call::Cancel(transaction) => named(b'C', 0, array_of(&[*transaction])),
@@ -124,30 +124,31 @@ fn called(call: &Call) -> Record
 
 // ---- The record
 
-// A call's part completed with its reply's numbers. A call that is refused has no record.
-fn completed(call: Record, told: Numbers, listed: usize, numbers: [u32; LISTED]) -> Option<Record>
-    ensures { Completed call told listed numbers result }
+// Completes a call's part with its reply's numbers.
+fn complete(content: &mut Record, told: Numbers, listed: usize, numbers: [u32; LISTED])
+    requires { told.refusal ≡ 0 }
+    ensures { Completed content.old told listed numbers (Some content.new) }
 {
-    if told.refusal != protocol::ACCEPTED {
-        return None;
-    }
-    Some(Record {
-        code: told.code,
-        owners: told.owners,
-        listed,
-        numbers,
-        ..call
-    })
+    content.code = told.code;
+    content.owners = told.owners;
+    content.listed = listed;
+    content.numbers = numbers;
 }
 
+// A call that is refused has no record, and none is begun.
 fn with_list(call: &Call, reply: Reply, list: &[u8]) -> Option<Record>
     requires given { given_to (call_of call.now) (reply_of reply) ≡ true }
     requires few { length list.now ≤ list_length }
     ensures { Recorded (call_of call.now) (reply_of reply) list.now result }
 {
     let told = Numbers::from(reply);
+    if told.refusal != protocol::ACCEPTED {
+        return None;
+    }
     let listed = list.len().min(told.count as usize);
-    completed(called(call), told, listed, behind(told, &list[..listed]))
+    let mut content = called(call);
+    complete(&mut content, told, listed, behind(told, &list[..listed]));
+    Some(content)
 }
 
 fn with_answers(call: &Call, batched: &Batched) -> Option<Record>
@@ -156,8 +157,13 @@ fn with_answers(call: &Call, batched: &Batched) -> Option<Record>
     ensures { Recorded (call_of call.now) (batched_of batched.now) [] result }
 {
     let told = Numbers::from(batched.reply);
+    if told.refusal != protocol::ACCEPTED {
+        return None;
+    }
+    let mut content = called(call);
     let numbers = answer_numbers(&batched.answers[..batched.count]);
-    completed(called(call), told, 0, numbers)
+    complete(&mut content, told, 0, numbers);
+    Some(content)
 }
 
 pub fn record_of(call: &Call, told: &Told) -> Option<Record>

@@ -8,6 +8,8 @@ ghost use Rattle.dispatch.specs.Replying.{most_printed, most_recorded};
 ghost use Rattle.script.specs.Sessions.{session, closing};
 ghost use Rattle.script.specs.Feeding.{LinePut, Turned, KeptIn, Buffers, Kept, Room, Took, begun, Stopped};
 
+use dispatch::Output;
+
 // The bytes that are kept of a line, 717: one more than the longest call has, `G` with a transaction and the operations
 // of a batch, each number a space and the most digits.
 pub const LINE: usize = 1 + (1 + text::MOST_DIGITS) * lines::MOST_ARGUMENTS + 1;
@@ -39,20 +41,25 @@ fn keep(line: &mut [u8], kept: usize, part: &[u8]) -> usize
     text::put(line, kept, &part[..count])
 }
 
-// Serves a line. Its reply and its record go behind those that end there.
-fn serve_line(book: &mut [u32], line: &[u8], out: &mut [u8], journal: &mut [u8], from: Ends) -> Ends
+// Serves a line. Its reply and its record go behind those that end there, by way of what the caller lends for them.
+fn serve_line(
+    book: &mut [u32],
+    line: &[u8],
+    output: &mut Output,
+    out: &mut [u8],
+    journal: &mut [u8],
+    from: Ends,
+) -> Ends
     requires { (from.written + most_printed ≤ length out.old)
         × (from.recorded + most_recorded ≤ length journal.old) }
     ensures { LinePut (line_served book.old line.now) book.new
         out.old from.written out.new journal.old from.recorded journal.new result }
 {
-    let output = dispatch::reply_line(book, line);
-    let written = text::put(out, from.written, &output.reply);
-    let recorded = match &output.record {
-        Some(bytes) => text::put(journal, from.recorded, bytes),
-        None => from.recorded,
-    };
-    Ends { written, recorded }
+    dispatch::reply_line(book, line, output);
+    Ends {
+        written: text::put(out, from.written, &output.reply),
+        recorded: text::put(journal, from.recorded, &output.record),
+    }
 }
 
 // Takes a block's bytes up to the end of a line, or of the block.
@@ -60,6 +67,7 @@ fn take_line(
     book: &mut [u32],
     line: &mut [u8],
     block: &[u8],
+    output: &mut Output,
     out: &mut [u8],
     journal: &mut [u8],
     from: Progress,
@@ -84,7 +92,7 @@ fn take_line(
         written: from.written,
         recorded: from.recorded,
     };
-    let ends = serve_line(book, &line[..kept], out, journal, begun);
+    let ends = serve_line(book, &line[..kept], output, out, journal, begun);
     Progress {
         at: end + 1,
         kept: 0,
@@ -126,8 +134,9 @@ pub fn feed(
         written: 0,
         recorded: 0,
     };
+    let mut output = Output::new();
     while goes_on(progress, block.len(), out.len(), journal.len()) {
-        progress = take_line(book, line, block, out, journal, progress);
+        progress = take_line(book, line, block, &mut output, out, journal, progress);
     }
     progress
 }
@@ -146,5 +155,5 @@ pub fn end_input(book: &mut [u32], line: &[u8], out: &mut [u8], journal: &mut [u
     if line.is_empty() {
         return begun;
     }
-    serve_line(book, line, out, journal, begun)
+    serve_line(book, line, &mut Output::new(), out, journal, begun)
 }

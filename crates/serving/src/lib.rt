@@ -36,7 +36,7 @@ pub fn serve(book: &mut [u32], call: &Call) -> Told
             Told::Plain(reply)
         }
         Call::Batch(transaction, operations) => {
-            Told::Answered(scheduler::batch(book, *transaction, operations))
+            Told::Answered(scheduler::batch(book, *transaction, operations.as_slice()))
         }
         Call::Finish(transaction) => {
             let mut list = [0u8; LIST];

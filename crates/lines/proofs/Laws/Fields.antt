@@ -1,11 +1,11 @@
 -- The fields of a line, taken one after the other: the first is the letter, and the numbers of the others are pushed.
 use Rattle.std.specs.Prelude.{ℕ, ◌<◌, ◌≡◌, refl, List, [], ◌∷◌, ◌++◌, Some, None, length, get_or}
-use Rattle.std.specs.Prelude.{Bool, false, eqb, map, take, drop}
+use Rattle.std.specs.Prelude.{Bool, true, false, cond, eqb, map, take, drop}
 use Rattle.std.specs.Fn.{CalledAt}
 use Rattle.std.specs.Iterator.{Yields}
 use Rattle.std.specs.Slice.Iter.{split_rest, split_done, split_callee, split_steps}
 use Rattle.std.specs.declared.slice.Split.{Split}
-use Rattle.std.proofs.Common.{arith, sym, ap, ◌∙◌, subst, length-append, Bor}
+use Rattle.std.proofs.Common.{arith, sym, ap, ◌∙◌, subst, ne_eqb, length-append, Bor}
 use Rattle.std.proofs.Math.Option as math
 use Rattle.std.proofs.Math.Option.{none, some, none-ne-some}
 use Rattle.std.proofs.Math.Seq.{append_snoc}
@@ -15,7 +15,7 @@ use Rattle.std.proofs.lemmas.Iterator.{YieldsList}
 use Rattle.std.proofs.lemmas.Iterator.Consumers.{YieldsList-so_far, YieldsList-end}
 use Rattle.std.proofs.lemmas.Iterator.Splits.{YieldsList-from_slice_split}
 use Rattle.std.proofs.iter.Next.{Yields-more}
-use Rattle.text.specs.Text.{split, number_in}
+use Rattle.text.specs.Text.{longer, split, number_in}
 use Rattle.text.proofs.Laws.Splitting.{split_is}
 use denote.Param.Members.{Mut}
 use Rattle.lines.specs.Lines.{with_first, numbers_in, asked, asked_with, call_of_fields}
@@ -62,11 +62,27 @@ one_letter [] e = absurd (omega arith)
 one_letter (letter ∷ []) e = refl
 one_letter (letter ∷ b ∷ word) e = absurd (omega arith)
 
-pub other_word : (word : List ℕ) (fields : List (List ℕ)) → (length word ≡ 1 → ⊥)
+other_word : (word : List ℕ) (fields : List (List ℕ)) → (length word ≡ 1 → ⊥)
     → none ≡ call_of_fields (word ∷ fields)
 other_word [] fields other = refl
 other_word (letter ∷ []) fields other = absurd (other refl)
 other_word (letter ∷ b ∷ word) fields other = refl
+
+-- Where the second byte is no space the first field is no letter alone.
+two_bytes : (a b : ℕ) (fields : List (List ℕ)) → none ≡ call_of_fields (longer a (longer b fields))
+two_bytes a b [] = refl
+two_bytes a b (field ∷ fields) = refl
+
+empty_first : (first : Bool) (fields others : List (List ℕ)) → none ≡ call_of_fields others
+    → none ≡ call_of_fields (cond first ([] ∷ fields) others)
+empty_first true fields others e = refl
+empty_first false fields others e = e
+
+pub no_second : (line : List ℕ) → 1 < length line → (get_or line 1 0 ≡ 32 → ⊥) → none ≡ call_of_fields (split 32 line)
+no_second [] more other = absurd (omega (arith, more))
+no_second (a ∷ []) more other = absurd (omega (arith, more))
+no_second (a ∷ b ∷ line) more other =
+    rw (ne_eqb b 32 other) (empty_first (eqb a 32) _ _ (two_bytes a b (split 32 line)))
 
 -- A letter, and fields of which the first say these numbers.
 module _ (word : List ℕ) (alone : length word ≡ 1) (fields : List (List ℕ)) {numbers : List ℕ}
@@ -116,13 +132,13 @@ module _ {F : Type 0} {g : Mut F (Bor ℕ × Unit {0}) Bool} (s j : Split ℕ F)
   road : YieldsList (split_steps g) (λ x. x.now) s (split 32 line)
   road = rw split_is (YieldsList-from_slice_split g (λ b. eqb b 32) line rest done test computes)
 
-  pub first_passed : (more : List (List ℕ)) × (split 32 line ≡ first.now ∷ more)
-  first_passed =
+  pub no_letter : (length first.now ≡ 1 → ⊥) → none ≡ call_of_fields (split 32 line)
+  no_letter other =
       let all : List (List ℕ) = split 32 line in
-      let so_far : first.now ∷ [] ≡ take 1 all = YieldsList-so_far road (first ∷ []) j (j, begun, refl) in (
-        drop 1 all,
-        sym (take-append-drop 1 all) ∙ ap (λ (l : List (List ℕ)). l ++ drop 1 all) (sym so_far),
-      )
+      let so_far : first.now ∷ [] ≡ take 1 all = YieldsList-so_far road (first ∷ []) j (j, begun, refl) in
+      let passed : first.now ∷ drop 1 all ≡ all =
+      ap (λ (l : List (List ℕ)). l ++ drop 1 all) so_far ∙ take-append-drop 1 all in
+      other_word first.now (drop 1 all) other ∙ ap call_of_fields passed
 
   module _ (k t u : Split ℕ F) (same : k ≡ j) (fields : List (Bor (List ℕ)))
       (y : Yields (split_steps g) k fields t) where

@@ -1,29 +1,34 @@
 -- `lines::read_line`: the fields as they come, the first of them the letter.
-use Rattle.std.proofs.Common.{◌≡◌, ◌∙◌, sym, ap, arith, length, rules, get_or}
+use Rattle.std.proofs.Common.{◌∙◌, sym, ap, arith, rules, get_or}
 use Rattle.std.proofs.lemmas.List.{map-append}
-use Rattle.std.proofs.lemmas.Bool.Decides.{nat_tests}
 use borrow.Author.Tests.{tests}
 use Rattle.std.proofs.Math.Option.{some}
 use Rattle.lines.specs.Coded.{call_said}
 use Rattle.lines.specs.Lines.{call_in, call_of_fields, asked, numbers_in}
-use Rattle.lines.proofs.Laws.Fields.{other_word, numbers_pushed, no_number, too_many_fields, all_read}
-use Rattle.lines.proofs.Laws.Fields.{first_passed, last_passed, another}
-use Rattle.lines.proofs.read_line.Goals.{in_default-via-then-first-lt1, in_default-via-else-first-lt1+else-first-lt2}
+use Rattle.lines.proofs.Laws.Fields.{numbers_pushed, no_number, too_many_fields, all_read}
+use Rattle.lines.proofs.Laws.Fields.{no_second, no_letter, last_passed, another}
 use Rattle.lines.proofs.read_line.Goals as goal
+
+pub returns-then-line-ne-SPACE : goal.returns-then-line-ne-SPACE
+unfolding call_in
+returns-then-line-ne-SPACE c =
+    no_second c.args.line.now (omega (arith, c.if-line-gt1.true)) c.if-line-ne-SPACE.true
 
 pub returns-in_default : goal.returns-in_default
 unfolding call_in
 returns-in_default c =
-    let first = c.in_ok-first.first in
     let split = c.split-fields.ensures in
-    let (more, all) = first_passed c.split-fields.result c.next.new.self first c.in_ok-first.ensures.steps
-    c.args.line.now split.rest split.done split.closure (λ x r q k. search (rules, tests)) in
-    let other : length first.now ≡ 1 → ⊥ =
-    elim c.in_default.branch [
-      | in_default-via-then-first-lt1 w ↦ λ one. grind (arith, nat_tests)
-      | in_default-via-else-first-lt1+else-first-lt2 w ↦ λ one. grind (arith, nat_tests)
-    ] in
-    other_word first.now more other ∙ ap call_of_fields (sym all)
+    no_letter c.split-fields.result c.next.new.self c.in_ok-first.first c.in_ok-first.ensures.steps
+    c.args.line.now split.rest split.done split.closure (λ x r q k. search (rules, tests))
+    (λ one. omega (arith, c.in_default.len_below))
+
+pub returns-in_default-2 : goal.returns-in_default-2
+unfolding call_in
+returns-in_default-2 c =
+    let split = c.split-fields.ensures in
+    no_letter c.split-fields.result c.next.new.self c.in_ok-first.first c.in_ok-first.ensures.steps
+    c.args.line.now split.rest split.done split.closure (λ x r q k. search (rules, tests))
+    (λ one. omega (arith, c.in_default.len_at_least))
 
 pub returns-in_err-read_number : goal.returns-in_err-read_number
 unfolding call_in

@@ -106,6 +106,10 @@ nothing_recorded call (protocol.cancelled count) list refused = absurd (refused 
 nothing_recorded call (protocol.counted rows) list refused = refl
 nothing_recorded call (protocol.refused reason) list refused = refl
 
+pub none_made : (call : Call) (reply : protocol.Reply) (list : List ℕ) → ((numbers_of reply).refusal ≡ 0 → ⊥)
+    → Recorded call reply list None
+none_made call reply list refused = record { is = nothing_recorded call reply list refused; shape = tt }
+
 module _ (call : Call) (lettered : eqb (letter_of call) 0 ≡ false) (list : List ℕ) (few : length list ≤ 64)
     (c : Record) (told : Numbers) (count : ℕ) (behind : List ℕ) (r : Record) (done : With c told count behind r)
     (named : Called call c) where
@@ -193,10 +197,6 @@ module _ (call : Call) (lettered : eqb (letter_of call) 0 ≡ false) (list : Lis
     (c : Record) (told : Numbers) (count : ℕ) (behind : List ℕ) (named : Called call c) (reply : protocol.Reply)
     (tells : Tells reply told) (numbers : Behind reply list count behind) (given : given_to call reply ≡ true) where
   pub record_made : (r : code.Option Record) → Completed c told count behind r → Recorded call reply list r
-  record_made None refused =
-      record {
-        is = nothing_recorded call reply list (λ accepted. refused (tells.refusal ∙ accepted));
-        shape = tt;
-      }
+  record_made None refused = none_made call reply list (λ accepted. refused (tells.refusal ∙ accepted))
   record_made (Some r) done =
       with_reply call lettered list few c told count behind r done named reply tells numbers given

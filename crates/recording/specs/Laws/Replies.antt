@@ -1,6 +1,6 @@
 -- What a reply puts behind a call, and the records of a call and of a batch.
 use Rattle.std.specs.Prelude as code
-use Rattle.std.specs.Prelude.{ℕ, ◌≤◌, min, ◌≡◌, refl, true, false, eqb, List, [], ◌∷◌, map, length, take}
+use Rattle.std.specs.Prelude.{ℕ, ◌≤◌, min, ◌≡◌, refl, true, false, eqb, List, [], ◌∷◌, None, map, length, take}
 use Rattle.std.proofs.Common.{sym, ap, ◌∙◌, subst, arith, take_at, length-take-le}
 use Rattle.std.proofs.Math.Path.{subst⁻¹}
 use Rattle.std.proofs.Math.Seq.{take-nil}
@@ -25,7 +25,7 @@ use Rattle.journal.specs.Coded.{front}
 use Rattle.journal.specs.declared.Record.{Record}
 use Rattle.recording.specs.Recording.{letter_of, given_to, Recorded}
 use Rattle.recording.specs.Parts.{Begins, Called, NumbersPut, Completed}
-use Rattle.recording.specs.Laws.Records.{Tells, Behind, record_made}
+use Rattle.recording.specs.Laws.Records.{Tells, Behind, none_made, record_made}
 
 -- No call of the code is contents.
 lettered : (call : Call) → eqb (letter_of (call_of call)) 0 ≡ false
@@ -106,6 +106,12 @@ call_recorded call reply list few given c named told is count counted behind put
     (subst (λ (n : Numbers). NumbersPut n (take count list) behind) is put))
     given
 
+-- A call that is refused has no record.
+pub call_refused : (call : Call) (reply : Reply) (list : List ℕ) (said : Numbers) → said ≡ numbers_of (reply_of reply)
+    → (said.refusal ≡ 0 → ⊥) → Recorded (call_of call) (reply_of reply) list None
+call_refused call reply list said is refused =
+    none_made (call_of call) (reply_of reply) list (λ accepted. refused (ap (λ (n : Numbers). n.refusal) is ∙ accepted))
+
 -- ---- A batch
 
 -- No number that a record has is among the answers beside a reply.
@@ -140,3 +146,10 @@ batch_recorded call b full given c named told is behind put =
       named = sym (take-nil (numbers_of (batched_of b)).count);
     })
     given
+
+-- A batch that is refused has none.
+pub batch_refused : (call : Call) (b : Batched) (said : Numbers) → said ≡ numbers_of (reply_of b.reply)
+    → (said.refusal ≡ 0 → ⊥) → Recorded (call_of call) (batched_of b) [] None
+batch_refused call b said is refused =
+    let tells : Tells (batched_of b) said = subst⁻¹ (Tells (batched_of b)) is (told_beside _ b.reply) in
+    none_made (call_of call) (batched_of b) [] (λ accepted. refused (tells.refusal ∙ accepted))

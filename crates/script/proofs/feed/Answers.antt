@@ -3,10 +3,10 @@ use Rattle.std.proofs.Common.{◌∙◌}
 use Rattle.script.proofs.Laws.Taking.{took_more}
 use Rattle.script.proofs.feed.Goals as goal
 
-pub loop-book-preserved : goal.loop-book-preserved
-loop-book-preserved c =
+pub loop-output-preserved : goal.loop-output-preserved
+loop-output-preserved c =
     let taken = c.take_line-progress in
-    let held = c.loop-book.invariant in (
+    let held = c.loop-output.invariant in (
       taken.auto.line ∙ held.0,
       taken.auto.out ∙ held.1,
       taken.auto.book ∙ held.2,

@@ -1,9 +1,9 @@
--- `write`: the letter, the arguments and the reply, where the record is shaped.
+-- `write_into`: the letter, the arguments and the reply, where the record is shaped.
 use Rattle.std.proofs.Common.{sym, ◌∙◌, arith}
 use Rattle.std.proofs.lemmas.Grind.{common_steps}
 use Rattle.journal.specs.Coded.{record_of}
 use Rattle.journal_writer.specs.Laws.Whole.{turned_away, room, fitting, whole}
-use Rattle.journal_writer.proofs.write.Goals as goal
+use Rattle.journal_writer.proofs.write_into.Goals as goal
 
 pub returns-then-not-is_shaped-clause-bytes : goal.returns-then-not-is_shaped-clause-bytes
 returns-then-not-is_shaped-clause-bytes c =
@@ -22,7 +22,7 @@ put_reply-requires-clause-room c =
 pub returns-clause-bytes : goal.returns-clause-bytes
 returns-clause-bytes c =
     whole (record_of c.args.content.now) (sym c.is_shaped.ensures ∙ c.if-not-is_shaped.false)
-    c.put_arguments.ensures.small c.put_reply.ensures.small _ _ _ _ c.new-out.ensures
+    c.put_arguments.ensures.small c.put_reply.ensures.small _ _ _ _ c.clear.ensures
     c.push.ensures.items c.put_arguments.ensures.bytes c.put_reply.ensures.bytes
 
 pub returns-clause-fits : goal.returns-clause-fits
