@@ -81,10 +81,16 @@ module _ (valued : Bool) (w : List ℕ) where
           before = λ j m q f.
               same j i
               (λ (e : j ≡ i).
-              rw (e, get_or-set_same chains.before (i + 1) (get_or chains.latest s 0) 0 (omega (arith, c.of_before)), ← own)
+              rw (
+                e,
+                get_or-set_same chains.before (i + 1) (get_or chains.latest s 0) 0
+                    (omega (arith, c.of_before)),
+                ← own,
+              )
               (c.latest s l))
               (λ (e : j ≡ i → ⊥).
-              rw (get_or-set_other chains.before (i + 1) (j + 1) (get_or chains.latest s 0) 0 (λ (m : j + 1 ≡ i + 1). e (omega arith)))
+              rw (get_or-set_other chains.before (i + 1) (j + 1) (get_or chains.latest s 0) 0
+              (λ (m : j + 1 ≡ i + 1). e (omega arith)))
               (c.before j (omega arith) q f));
         }
 

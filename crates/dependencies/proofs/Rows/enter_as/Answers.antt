@@ -12,12 +12,14 @@ use Rattle.dependencies.proofs.Rows.enter_as.Goals as goal
 
 pub overflow_sub-first : goal.overflow_sub-first
 overflow_sub-first g c =
-    let numbered : Numbered g.row.NUMBER = omega (arith, c.read-entry.ensures.numbered, c.read-entry.ensures.of_number) in
+    let read = c.read-entry.ensures in
+    let numbered : Numbered g.row.NUMBER = omega (arith, read.numbered, read.of_number) in
     omega (arith, c.first.ensures, (ranged g.row.NUMBER numbered).least)
 
 pub join_at-requires-3 : goal.join_at-requires-3
 join_at-requires-3 g c =
-    let numbered : Numbered g.row.NUMBER = omega (arith, c.read-entry.ensures.numbered, c.read-entry.ensures.of_number) in
+    let read = c.read-entry.ensures in
+    let numbered : Numbered g.row.NUMBER = omega (arith, read.numbered, read.of_number) in
     let within = column_within g.row.NUMBER numbered _ c.first.ensures in
     (omega arith, within)
 
