@@ -62,7 +62,7 @@ one_letter [] e = absurd (omega arith)
 one_letter (letter ∷ []) e = refl
 one_letter (letter ∷ b ∷ word) e = absurd (omega arith)
 
-other_word : (word : List ℕ) (fields : List (List ℕ)) → (length word ≡ 1 → ⊥)
+pub other_word : (word : List ℕ) (fields : List (List ℕ)) → (length word ≡ 1 → ⊥)
     → none ≡ call_of_fields (word ∷ fields)
 other_word [] fields other = refl
 other_word (letter ∷ []) fields other = absurd (other refl)
@@ -132,13 +132,18 @@ module _ {F : Type 0} {g : Mut F (Bor ℕ × Unit {0}) Bool} (s j : Split ℕ F)
   road : YieldsList (split_steps g) (λ x. x.now) s (split 32 line)
   road = rw split_is (YieldsList-from_slice_split g (λ b. eqb b 32) line rest done test computes)
 
+  pub first_passed : (more : List (List ℕ)) × (split 32 line ≡ first.now ∷ more)
+  first_passed =
+      let all : List (List ℕ) = split 32 line in
+      let so_far : first.now ∷ [] ≡ take 1 all = YieldsList-so_far road (first ∷ []) j (j, begun, refl) in (
+        drop 1 all,
+        sym (take-append-drop 1 all) ∙ ap (λ (l : List (List ℕ)). l ++ drop 1 all) (sym so_far),
+      )
+
   pub no_letter : (length first.now ≡ 1 → ⊥) → none ≡ call_of_fields (split 32 line)
   no_letter other =
-      let all : List (List ℕ) = split 32 line in
-      let so_far : first.now ∷ [] ≡ take 1 all = YieldsList-so_far road (first ∷ []) j (j, begun, refl) in
-      let passed : first.now ∷ drop 1 all ≡ all =
-      ap (λ (l : List (List ℕ)). l ++ drop 1 all) so_far ∙ take-append-drop 1 all in
-      other_word first.now (drop 1 all) other ∙ ap call_of_fields passed
+      let (more, all) = first_passed in
+      other_word first.now more other ∙ ap call_of_fields (sym all)
 
   module _ (k t u : Split ℕ F) (same : k ≡ j) (fields : List (Bor (List ℕ)))
       (y : Yields (split_steps g) k fields t) where
